@@ -1,7 +1,7 @@
 -- What a call does to the files of a store, where the store tells them: a look-up from names to bytes, compared name by name.
 -- `None` stands for a store that doesn't tell. A store that tells goes on telling, and one that doesn't never begins.
-use Rattle.std.specs.Prelude.{◌≡◌, ◌≢◌, ◌⊎◌, ℕ, ◌-◌, ◌≤◌, List, [], ◌++◌, length, take, drop, ⊤, Option, None, Some, IsSome, MatchOption, Result, MatchResult, IfOk}
-use Rattle.std.specs.Option.{option_map}
+use Rattle.std.specs.Prelude.{◌≡◌, ◌≢◌, ◌⊎◌, ℕ, ◌-◌, ◌^◌, ◌≤◌, nat_lt, if◌then◌else◌, List, [], ◌++◌, length, take, drop, ⊤, Option, None, Some, IsSome, MatchOption, Result, MatchResult, IfOk}
+use Rattle.std.specs.Option.{option_map, option_and_then}
 use Rattle.ae_ports.specs.declared.failed.Failed.{Failed}
 
 -- the bytes of each file that is there, by name
@@ -61,3 +61,21 @@ FileGrows before now name bytes = MatchOption before ⊤ (λ old. MatchOption no
 abbrev pub Adds : Option Files → Option Files → List ℕ → List ℕ → Result Unit Failed → Type 0
 Adds before now name piece result =
     MatchResult result (λ _. FileGrows before now name piece) (λ _. (count : ℕ) × (count ≤ length piece) × FileGrows before now name (take count piece))
+
+-- the bytes of the file of this name, where the files are told
+abbrev pub file_told : Option Files → List ℕ → Option (List ℕ)
+file_told told name = option_and_then (λ files. files name) told
+
+-- The bytes of the file of this name from this offset on, where the files are told. A file in which some offset is
+-- no u64 isn't told.
+abbrev pub left_told : Option Files → List ℕ → ℕ → Option (List ℕ)
+left_told told name from = option_and_then (λ bytes. if nat_lt (length bytes) (2 ^ 64) then Some (drop from bytes) else None) (file_told told name)
+
+-- the file of this name has exactly these bytes, where the files are told
+abbrev pub HasBytes : Option Files → List ℕ → List ℕ → Type 0
+HasBytes told name bytes = MatchOption told ⊤ (λ files. files name ≡ Some bytes)
+
+-- A file was made and filled with these bytes. After Failed it is as before, or has a front of them.
+abbrev pub Replaces : Option Files → Option Files → List ℕ → List ℕ → Result Unit Failed → Type 0
+Replaces before now name bytes result =
+    MatchResult result (λ _. HasBytes now name bytes) (λ _. SameFile before now name ⊎ ((count : ℕ) × (count ≤ length bytes) × HasBytes now name (take count bytes)))

@@ -5,14 +5,33 @@
 //! fail at the calls that were named, stand in for files and streams in tests.
 #![tactic(auto)]
 
+mod calls;
+mod copy;
 mod failed;
+mod file;
+mod memory_sink;
+mod memory_source;
+mod memory_store;
 mod sink;
 mod source;
+mod steady_source;
 mod store;
+mod store_sink;
+mod store_source;
+#[cfg(test)]
+mod tests;
+mod whole;
 mod word;
 
 pub use failed::Failed;
+pub use memory_sink::MemorySink;
+pub use memory_source::MemorySource;
+pub use memory_store::MemoryStore;
 pub use sink::Sink;
 pub use source::Source;
+pub use steady_source::SteadySource;
 pub use store::Store;
+pub use store_sink::StoreSink;
+pub use store_source::StoreSource;
+pub use whole::{write_all, write_file};
 pub use word::Word;

@@ -1,0 +1,3 @@
+mod Pieces
+mod Left
+pub mod Places

@@ -1,0 +1,15 @@
+ghost use Rattle.ae_ports.specs.Memory.{IsCopy};
+
+/// Copies the bytes from the offset `from` on into the front of `buf`, all that are there and have room, and answers
+/// how many.
+pub fn copy_from(bytes: &[u8], from: u64, buf: &mut [u8]) -> usize
+    ensures { IsCopy bytes.now from buf.old buf.new result }
+{
+    if from >= bytes.len() as u64 {
+        return 0;
+    }
+    let rest = &bytes[from as usize..];
+    let count = rest.len().min(buf.len());
+    buf[..count].copy_from_slice(&rest[..count]);
+    count
+}
