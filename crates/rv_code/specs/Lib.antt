@@ -1,0 +1,11 @@
+pub mod Numbers
+pub mod Fields
+pub mod Table
+pub mod Levels
+pub mod Laws
+pub mod Parts
+pub mod Results
+pub mod Addresses
+pub mod Code
+pub mod Image
+pub mod Endings

@@ -1,0 +1,29 @@
+//! The instructions of RV32IM, what each reads, writes and gives, and the image of an executable.
+//!
+//! The meaning of a word is the instruction table of the RISC-V unprivileged manual, written down in `specs/` as a list
+//! of pairs: an instruction's form, and the fields that are fixed in it. [`decode`] is exactly that table.
+#![tactic(auto)]
+
+mod class;
+mod decoder;
+mod ending;
+mod extent;
+mod image;
+mod instr;
+mod laws;
+mod lists;
+mod parts;
+mod results;
+#[cfg(test)]
+mod tests;
+
+pub use class::Class;
+pub use decoder::decode;
+pub use ending::Ending;
+pub use extent::Extent;
+pub use image::{Image, Mark, Name, Note, Range, Region};
+pub use instr::{BranchOp, ImmOp, Instr, LoadOp, RegOp, StoreOp};
+pub use laws::{a_word_means_its_entry, no_word_agrees_with_two};
+pub use lists::ListOf;
+pub use parts::{class_of, target, writes};
+pub use results::{is_taken, on_registers, op_result};

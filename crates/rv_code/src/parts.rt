@@ -1,0 +1,86 @@
+//! What an instruction is to the program round it.
+ghost use Rattle.std.specs.Prelude.{◌≡◌, ◌+◌};
+ghost use Rattle.rv_code.specs.Numbers.{wrap, unsigned};
+ghost use Rattle.rv_code.specs.Parts.{class_of, but_zero, written_by, target_of};
+
+use crate::{Class, Instr};
+
+/// The class of an instruction.
+pub fn class_of(instr: &Instr) -> Class
+    ensures { result ≡ class_of instr.now }
+{
+    match instr {
+        Instr::Lui { .. }
+        | Instr::Auipc { .. }
+        | Instr::OpImm { .. }
+        | Instr::Op { .. }
+        | Instr::Fence(_) => { Class::Plain }
+        Instr::Load { .. } => Class::Load,
+        Instr::Store { .. } => Class::Store,
+        Instr::Branch { .. } => Class::Branch,
+        Instr::Jal { .. } => Class::Jump,
+        Instr::Jalr { .. } => Class::Indirect,
+        Instr::Ecall => Class::Call,
+        Instr::Ebreak | Instr::Bad(_) => Class::Stop,
+    }
+}
+
+fn but_zero(register: u8) -> Option<u8>
+    ensures { result ≡ but_zero register }
+{
+    match register {
+        0 => None,
+        _ => Some(register),
+    }
+}
+
+/// The register that an instruction writes, if any. A write to x0 keeps nothing and is none (manual, section 2.1); a call
+/// of the system answers in x10.
+pub fn writes(instr: &Instr) -> Option<u8>
+    ensures { result ≡ written_by instr.now }
+{
+    match *instr {
+        Instr::Lui { rd, .. }
+        | Instr::Auipc { rd, .. }
+        | Instr::Jal { rd, .. }
+        | Instr::Jalr { rd, .. }
+        | Instr::Load { rd, .. }
+        | Instr::OpImm { rd, .. }
+        | Instr::Op { rd, .. } => but_zero(rd),
+        Instr::Ecall => Some(10),
+        Instr::Branch { .. }
+        | Instr::Store { .. }
+        | Instr::Fence(_)
+        | Instr::Ebreak
+        | Instr::Bad(_) => None,
+    }
+}
+
+// so many bytes past an address, modulo 2^32
+fn address_past(address: u32, bytes: i32) -> u32
+    ensures { result ≡ wrap (address + unsigned bytes) }
+{
+    address.wrapping_add(bytes.cast_unsigned())
+}
+
+/// The address where a direct jump or branch at `address` leads, modulo 2^32 (manual, section 2.5). `None` for each other
+/// instruction.
+pub fn target(instr: &Instr, address: u32) -> Option<u32>
+    ensures { result ≡ target_of instr.now address }
+{
+    match *instr {
+        Instr::Jal { imm, .. } => Some(address_past(address, imm)),
+        Instr::Branch { imm, .. } => Some(address_past(address, imm)),
+        Instr::Lui { .. }
+        | Instr::Auipc { .. }
+        | Instr::Jalr { .. }
+        | Instr::Load { .. }
+        | Instr::Store { .. }
+        | Instr::OpImm { .. }
+        | Instr::Op { .. }
+        | Instr::Fence(_)
+        | Instr::Ecall
+        | Instr::Ebreak
+        | Instr::Bad(_) => None,
+    }
+}

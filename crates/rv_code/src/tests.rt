@@ -1,0 +1,274 @@
+use crate::{
+    BranchOp, Class, ImmOp, Instr, ListOf, LoadOp, RegOp, StoreOp, class_of, decode, target, writes,
+};
+use std::test::Fail;
+
+fn branch(op: BranchOp, rs1: u8, rs2: u8, imm: i32) -> Instr {
+    Instr::Branch { op, rs1, rs2, imm }
+}
+
+fn load(op: LoadOp, rd: u8, rs1: u8, imm: i32) -> Instr {
+    Instr::Load { op, rd, rs1, imm }
+}
+
+fn store(op: StoreOp, rs1: u8, rs2: u8, imm: i32) -> Instr {
+    Instr::Store { op, rs1, rs2, imm }
+}
+
+fn op_imm(op: ImmOp, rd: u8, rs1: u8, imm: i32) -> Instr {
+    Instr::OpImm { op, rd, rs1, imm }
+}
+
+fn op(op: RegOp, rd: u8, rs1: u8, rs2: u8) -> Instr {
+    Instr::Op { op, rd, rs1, rs2 }
+}
+
+// The words and what they mean are an assembler's: GNU `as` for rv32im.
+#[test]
+fn reads_each_format(rt: HostRuntime) {
+    let table = [
+        (
+            0x0001_12b7,
+            Instr::Lui {
+                rd: 5,
+                imm: 0x1_1000,
+            },
+        ),
+        (
+            0x8000_02b7,
+            Instr::Lui {
+                rd: 5,
+                imm: 0x8000_0000,
+            },
+        ),
+        (
+            0xffff_ffb7,
+            Instr::Lui {
+                rd: 31,
+                imm: 0xffff_f000,
+            },
+        ),
+        (0x0000_0037, Instr::Lui { rd: 0, imm: 0 }),
+        (0x0000_0297, Instr::Auipc { rd: 5, imm: 0 }),
+        (
+            0x8000_0097,
+            Instr::Auipc {
+                rd: 1,
+                imm: 0x8000_0000,
+            },
+        ),
+        (0x0100_00ef, Instr::Jal { rd: 1, imm: 16 }),
+        (0xff9f_f0ef, Instr::Jal { rd: 1, imm: -8 }),
+        (
+            0x8000_006f,
+            Instr::Jal {
+                rd: 0,
+                imm: -1_048_576,
+            },
+        ),
+        (
+            0x7fff_ffef,
+            Instr::Jal {
+                rd: 31,
+                imm: 1_048_574,
+            },
+        ),
+        (0x0010_02ef, Instr::Jal { rd: 5, imm: 2048 }),
+        (
+            0x0000_8067,
+            Instr::Jalr {
+                rd: 0,
+                rs1: 1,
+                imm: 0,
+            },
+        ),
+        (
+            0x800f_0fe7,
+            Instr::Jalr {
+                rd: 31,
+                rs1: 30,
+                imm: -2048,
+            },
+        ),
+        (
+            0x7ff3_02e7,
+            Instr::Jalr {
+                rd: 5,
+                rs1: 6,
+                imm: 2047,
+            },
+        ),
+        (0x0ff0_000f, Instr::Fence(0x0ff0_000f)),
+        (0x8330_000f, Instr::Fence(0x8330_000f)),
+        (0xffff_8f8f, Instr::Fence(0xffff_8f8f)),
+        (0x0000_0073, Instr::Ecall),
+        (0x0010_0073, Instr::Ebreak),
+    ];
+    for (word, want) in table {
+        assert_eq!(rt; decode(word), want, "at {word:08x}");
+    }
+}
+
+#[test]
+fn reads_branches_loads_and_stores(rt: HostRuntime) {
+    let table = [
+        (0x0000_0263, branch(BranchOp::Beq, 0, 0, 4)),
+        (0xfe03_18e3, branch(BranchOp::Bne, 6, 0, -16)),
+        (0xfe02_9ae3, branch(BranchOp::Bne, 5, 0, -12)),
+        (0x7e83_cfe3, branch(BranchOp::Blt, 7, 8, 4094)),
+        (0x801f_d063, branch(BranchOp::Bge, 31, 1, -4096)),
+        (0x01f0_e0e3, branch(BranchOp::Bltu, 1, 31, 2048)),
+        (0xfe31_7fe3, branch(BranchOp::Bgeu, 2, 3, -2)),
+        (0xfff1_0083, load(LoadOp::Lb, 1, 2, -1)),
+        (0x7ff2_1183, load(LoadOp::Lh, 3, 4, 2047)),
+        (0x0002_a383, load(LoadOp::Lw, 7, 5, 0)),
+        (0x0003_ce83, load(LoadOp::Lbu, 29, 7, 0)),
+        (0x8005_5483, load(LoadOp::Lhu, 9, 10, -2048)),
+        (0xfff0_8fa3, store(StoreOp::Sb, 1, 31, -1)),
+        (0x7e41_9fa3, store(StoreOp::Sh, 3, 4, 2047)),
+        (0x0011_2623, store(StoreOp::Sw, 2, 1, 12)),
+        (0x81ef_a023, store(StoreOp::Sw, 31, 30, -2048)),
+    ];
+    for (word, want) in table {
+        assert_eq!(rt; decode(word), want, "at {word:08x}");
+    }
+}
+
+#[test]
+fn reads_operations(rt: HostRuntime) {
+    let on_immediates = [
+        (0x05d0_0893, op_imm(ImmOp::Addi, 17, 0, 93)),
+        (0xff01_0113, op_imm(ImmOp::Addi, 2, 2, -16)),
+        (0x8001_2093, op_imm(ImmOp::Slti, 1, 2, -2048)),
+        (0x7ff2_3193, op_imm(ImmOp::Sltiu, 3, 4, 2047)),
+        (0xfff3_4293, op_imm(ImmOp::Xori, 5, 6, -1)),
+        (0x5554_6393, op_imm(ImmOp::Ori, 7, 8, 1365)),
+        (0x7fc9_7313, op_imm(ImmOp::Andi, 6, 18, 2044)),
+        (0x0001_1093, op_imm(ImmOp::Slli, 1, 2, 0)),
+        (0x01f2_9293, op_imm(ImmOp::Slli, 5, 5, 31)),
+        (0x01f2_5193, op_imm(ImmOp::Srli, 3, 4, 31)),
+        (0x0003_d313, op_imm(ImmOp::Srli, 6, 7, 0)),
+        (0x41f4_d413, op_imm(ImmOp::Srai, 8, 9, 31)),
+        (0x4005_d513, op_imm(ImmOp::Srai, 10, 11, 0)),
+    ];
+    for (word, want) in on_immediates {
+        assert_eq!(rt; decode(word), want, "at {word:08x}");
+    }
+    let on_registers = [
+        (0x007e_0e33, op(RegOp::Add, 28, 28, 7)),
+        (0x4031_00b3, op(RegOp::Sub, 1, 2, 3)),
+        (0x0062_9233, op(RegOp::Sll, 4, 5, 6)),
+        (0x0094_23b3, op(RegOp::Slt, 7, 8, 9)),
+        (0x00c5_b533, op(RegOp::Sltu, 10, 11, 12)),
+        (0x00f7_46b3, op(RegOp::Xor, 13, 14, 15)),
+        (0x0128_d833, op(RegOp::Srl, 16, 17, 18)),
+        (0x415a_59b3, op(RegOp::Sra, 19, 20, 21)),
+        (0x018b_eb33, op(RegOp::Or, 22, 23, 24)),
+        (0x01bd_7cb3, op(RegOp::And, 25, 26, 27)),
+        (0x03ee_8e33, op(RegOp::Mul, 28, 29, 30)),
+        (0x03df_1fb3, op(RegOp::Mulh, 31, 30, 29)),
+        (0x022f_a0b3, op(RegOp::Mulhsu, 1, 31, 2)),
+        (0x03f0_b1b3, op(RegOp::Mulhu, 3, 1, 31)),
+        (0x0262_c3b3, op(RegOp::Div, 7, 5, 6)),
+        (0x0202_de33, op(RegOp::Divu, 28, 5, 0)),
+        (0x02a4_e433, op(RegOp::Rem, 8, 9, 10)),
+        (0x02d6_75b3, op(RegOp::Remu, 11, 12, 13)),
+    ];
+    for (word, want) in on_registers {
+        assert_eq!(rt; decode(word), want, "at {word:08x}");
+    }
+}
+
+#[test]
+fn refuses_other_words(rt: HostRuntime) {
+    let words = [
+        0x0000_0000,
+        0xffff_ffff,
+        // two compressed instructions
+        0x4501_4501,
+        // funct3 of jalr, branches, loads and stores
+        0x0000_9067,
+        0xfe03_28e3,
+        0xfe03_38e3,
+        0x0002_b383,
+        0x0002_e383,
+        0x0002_f383,
+        0x0011_3623,
+        // shift amounts of 32 and 63, and funct7 of slli
+        0x0201_1093,
+        0x03f2_5193,
+        0x43f4_d413,
+        0x4001_1093,
+        // funct7 of operations on registers
+        0x4062_9233,
+        0x047e_0e33,
+        0x427e_0e33,
+        0xfe7e_0e33,
+        // fence.i, csrrw, csrrs, mret and wfi
+        0x0000_100f,
+        0x3003_12f3,
+        0xc000_2573,
+        0x3020_0073,
+        0x1050_0073,
+        // ecall and ebreak with rd, rs1, rs2 or funct7 set
+        0x0000_00f3,
+        0x0000_8073,
+        0x0020_0073,
+        0x0200_0073,
+        0x0010_00f3,
+        0x0010_8073,
+        // instructions of 64 bits, atomic ones and those of floats
+        0x0000_001b,
+        0x0000_003b,
+        0x1000_202f,
+        0x0000_2007,
+    ];
+    for word in words {
+        assert_eq!(rt; decode(word), Instr::Bad(word), "at {word:08x}");
+    }
+}
+
+#[test]
+fn tells_class_register_and_target(rt: HostRuntime) {
+    let table = [
+        (
+            0xfe03_18e3,
+            0x0001_008c,
+            Class::Branch,
+            None,
+            Some(0x0001_007c),
+        ),
+        (0x0000_0263, 0xffff_fffc, Class::Branch, None, Some(0)),
+        (
+            0x0100_00ef,
+            0x0001_0074,
+            Class::Jump,
+            Some(1),
+            Some(0x0001_0084),
+        ),
+        (0x8000_006f, 0, Class::Jump, None, Some(0xfff0_0000)),
+        (0x0000_8067, 0, Class::Indirect, None, None),
+        (0x0002_a383, 0, Class::Load, Some(7), None),
+        (0x0011_2623, 0, Class::Store, None, None),
+        (0x05d0_0893, 0, Class::Plain, Some(17), None),
+        (0x0000_0037, 0, Class::Plain, None, None),
+        (0x0ff0_000f, 0, Class::Plain, None, None),
+        (0x0000_0073, 0, Class::Call, Some(10), None),
+        (0x0010_0073, 0, Class::Stop, None, None),
+        (0x0000_0000, 0, Class::Stop, None, None),
+    ];
+    for (word, address, class, register, to) in table {
+        let instr = decode(word);
+        assert_eq!(rt; class_of(&instr), class, "class of {word:08x}");
+        assert_eq!(rt; writes(&instr), register, "register of {word:08x}");
+        assert_eq!(rt; target(&instr, address), to, "target of {word:08x}");
+    }
+}
+
+#[test]
+fn a_list_keeps_its_items(rt: HostRuntime) -> Result<(), Fail> {
+    let list = ListOf::from_vec(vec![in rt.alloc(); 7u32, 5, 7]?);
+    assert_eq!(rt; list.as_slice(), [7, 5, 7].as_slice());
+    assert_eq!(rt; list.into_vec().as_slice(), [7, 5, 7].as_slice());
+    Ok(())
+}
