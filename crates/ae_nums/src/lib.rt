@@ -1,0 +1,21 @@
+//! Numbers and texts: what a trace records, where its items go to, and how it is printed.
+#![tactic(auto)]
+
+mod digits;
+mod hex;
+mod item;
+mod taker;
+mod text;
+mod trace;
+mod words;
+
+pub use digits::{decimal, read_decimal};
+pub use hex::hex8;
+pub use item::Item;
+pub use taker::Taker;
+pub use text::Text;
+pub use trace::item_line;
+pub use words::{put_u32, take_u32};
+
+#[cfg(test)]
+mod tests;

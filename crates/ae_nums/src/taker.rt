@@ -1,0 +1,31 @@
+ghost use Rattle.std.specs.Prelude.{ℕ, List, Option};
+ghost use Rattle.ae_ports.specs.Fault.{HasCause};
+ghost use Rattle.ae_nums.specs.declared.item.Item.{Item};
+ghost use Rattle.ae_nums.specs.Taken.{Takes};
+
+use crate::Item;
+use ae_ports::Failed;
+
+/// Where the items of a trace go to, one by one and in order.
+pub trait Taker {
+    /// The items taken so far, where the taker tells them.
+    ghost told: { Self → Option (List Item) };
+
+    /// How many faults there were so far.
+    ghost faults: { Self → ℕ };
+
+    /// What the taker was made with and stands on is the same in both.
+    ghost same_rest: { Self → Self → Type 0 };
+
+    /// Takes an item. After `Failed` it has taken the item or not.
+    fn take(&mut self, item: Item) -> Result<(), Failed>
+        ensures content { Takes (told self.old) (told self.new) item result }
+        ensures cause { HasCause (faults self.old) (faults self.new) result }
+        ensures rest { same_rest self.old self.new };
+
+    /// A taker has the same rest as itself.
+    ghost rest_stays: { (taker : Self) → same_rest taker taker };
+
+    /// What each of two calls keeps, both keep.
+    ghost rest_joins: { (one two three : Self) → same_rest one two → same_rest two three → same_rest one three };
+}
