@@ -1,0 +1,5 @@
+pub mod Begun
+pub mod Order
+pub mod ReadBytes
+pub mod Sample
+pub mod WrittenBytes

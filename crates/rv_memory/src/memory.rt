@@ -1,0 +1,109 @@
+ghost use Rattle.std.specs.Prelude.{◌≡◌, ◌⊎◌, false, None, [], length, IfOk, IfErr};
+ghost use Rattle.rv_code.specs.Image.{IsImage};
+ghost use Rattle.rv_code.specs.Numbers.{bytes_of, number_of};
+ghost use Rattle.rv_memory.specs.Answers.{hole_or};
+ghost use Rattle.rv_memory.specs.Blocks.{blocks_of, memory_of};
+ghost use Rattle.rv_memory.specs.Memory.{is_mapped, is_writable, span, bytes_at, first_hole, first_shut, written};
+ghost use Rattle.rv_memory.specs.Outline.{outline, region_at};
+ghost use Rattle.rv_memory.specs.Places.{bytes_behind};
+
+use crate::Hole;
+use crate::loading::stretches_of;
+use crate::reading::{extent_of, fetch, mapped_at, rest_from, writable_at};
+use crate::stretch::Stretch;
+use crate::writing::store;
+use rv_code::Image;
+use std::alloc::{AllocError, Global};
+use std::marker::Model;
+
+/// The mapped bytes of a machine: the regions of its image and the stack, in the order of their addresses.
+///
+/// An access of some bytes is carried out as one of each byte from the lowest address on, modulo 2^32: it need not be
+/// aligned, and it may begin in one region and end in another.
+#[derive(Debug, Drop)]
+pub struct Memory {
+    stretches: Vec<Stretch>,
+}
+
+impl Model for Memory {
+    ghost use Rattle.std.specs.Prelude.{List};
+    ghost use Rattle.rv_memory.specs.Blocks.{Block};
+
+    ghost Value = { List Block };
+
+    ghost use Rattle.rv_memory.specs.Outline.{AreInOrder};
+
+    ghost view = { λ memory. memory.stretches.items };
+
+    ghost invariant = { λ memory. AreInOrder memory.stretches.items };
+}
+
+impl Memory {
+    /// The memory of an image before its first step. The only error is want of memory.
+    pub fn load(alloc: Global, image: &Image) -> Result<Memory, AllocError>
+        requires { IsImage image.now }
+        ensures { IfOk result (λ memory. memory ≡ blocks_of image.now.regions) }
+    {
+        let stretches = stretches_of(alloc, image.regions.as_slice())?;
+        Ok(Memory { stretches })
+    }
+
+    /// The number that `size` bytes from an address on have, the lowest byte first.
+    ///
+    /// # Errors
+    ///
+    /// The first address of them where nothing is mapped.
+    pub fn read(&self, address: u32, size: u8) -> Result<u32, Hole>
+        requires { (size ≡ 1) ⊎ ((size ≡ 2) ⊎ (size ≡ 4)) }
+        ensures { result ≡ hole_or (first_hole (memory_of self.now) (span address size)) (number_of (bytes_at (memory_of self.now) (span address size))) }
+    {
+        fetch(&self.stretches, address, size)
+    }
+
+    /// Puts the lowest `size` bytes of a value from an address on, the lowest first.
+    ///
+    /// # Errors
+    ///
+    /// The first address of them where nothing that can be written is mapped. All is then as before.
+    pub fn write(&mut self, address: u32, size: u8, value: u32) -> Result<(), Hole>
+        requires { (size ≡ 1) ⊎ ((size ≡ 2) ⊎ (size ≡ 4)) }
+        ensures answer { result ≡ hole_or (first_shut (memory_of self.old) (span address size)) tt }
+        ensures put { IfOk result (λ _. memory_of self.new ≡ written (memory_of self.old) (span address size) (bytes_of size value)) }
+        ensures kept { IfErr result (λ _. self.new ≡ self.old) }
+        ensures outline { outline self.new ≡ outline self.old }
+    {
+        store(&mut self.stretches, address, size, value)
+    }
+
+    /// Whether a byte is mapped at the address.
+    pub fn readable(&self, address: u32) -> bool
+        ensures { result ≡ is_mapped (memory_of self.now) address }
+    {
+        mapped_at(&self.stretches, address)
+    }
+
+    /// Whether a byte that can be written is mapped at the address.
+    pub fn writable(&self, address: u32) -> bool
+        ensures { result ≡ is_writable (memory_of self.now) address }
+    {
+        writable_at(&self.stretches, address)
+    }
+
+    /// The start and the length of the region with this number, counted from 0 in the order of addresses, the stack among
+    /// them.
+    pub fn region(&self, number: u32) -> Option<(u32, u32)>
+        ensures { result ≡ region_at self.now number }
+    {
+        extent_of(&self.stretches, number)
+    }
+
+    /// The bytes from an address to the end of its region, none where it isn't mapped.
+    pub fn bytes_from(&self, address: u32) -> &[u8]
+        ensures to_the_end { result.now ≡ bytes_behind self.now address }
+        ensures bytes { bytes_at (memory_of self.now) (span address (length result.now)) ≡ result.now }
+        ensures mapped { first_hole (memory_of self.now) (span address (length result.now)) ≡ None }
+        ensures empty { result.now ≡ [] → is_mapped (memory_of self.now) address ≡ false }
+    {
+        rest_from(&self.stretches, address)
+    }
+}

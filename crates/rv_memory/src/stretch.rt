@@ -1,0 +1,90 @@
+ghost use Rattle.std.specs.Prelude.{◌≡◌, ◌⊎◌, ◌+◌, ◌-◌, ◌<◌, ◌≤◌, length, drop, slice_index};
+ghost use Rattle.rv_code.specs.Numbers.{bytes_of};
+
+use std::marker::Model;
+
+/// Mapped bytes, one behind the other.
+#[derive(Debug, Drop)]
+pub struct Stretch {
+    start: u32,
+    bytes: Vec<u8>,
+    writable: bool,
+}
+
+impl Model for Stretch {
+    ghost use Rattle.rv_memory.specs.Blocks.{Block};
+
+    ghost Value = { Block };
+
+    ghost view = { λ s. record { start = s.start; bytes = s.bytes.items; writable = s.writable } };
+}
+
+impl Stretch {
+    ghost use Rattle.rv_memory.specs.Blocks.{Block};
+    ghost use Rattle.rv_memory.specs.Stored.{with_bytes, stored};
+
+    /// These bytes, from this address on.
+    pub fn new(start: u32, bytes: Vec<u8>, writable: bool) -> Self
+        ensures { result ≡ record { start = start; bytes = bytes.items; writable = writable } }
+    {
+        Stretch {
+            start,
+            bytes,
+            writable,
+        }
+    }
+
+    /// The first byte's address.
+    pub fn start(&self) -> u32
+        ensures { result ≡ self.now.start }
+    {
+        self.start
+    }
+
+    /// How many bytes there are.
+    pub fn len(&self) -> usize
+        ensures { result ≡ length self.now.bytes }
+    {
+        self.bytes.len()
+    }
+
+    /// Whether the bytes can be written.
+    pub fn is_writable(&self) -> bool
+        ensures { result ≡ self.now.writable }
+    {
+        self.writable
+    }
+
+    /// The bytes from this place on.
+    pub fn from_place(&self, place: usize) -> &[u8]
+        requires { place ≤ length self.now.bytes }
+        ensures { result.now ≡ drop place self.now.bytes }
+    {
+        &self.bytes[place..]
+    }
+
+    /// The byte at this place.
+    pub fn byte(&self, place: usize) -> u8
+        requires { place < length self.now.bytes }
+        ensures { result ≡ slice_index self.now.bytes place }
+    {
+        self.bytes[place]
+    }
+
+    /// Puts the lowest `size` bytes of a value from this place on, the lowest first.
+    pub fn store(&mut self, place: usize, size: u8, value: u32)
+        requires size { (size ≡ 1) ⊎ ((size ≡ 2) ⊎ (size ≡ 4)) }
+        requires within { place + size ≤ length self.old.bytes }
+        ensures { self.new ≡ with_bytes self.old (stored self.old.bytes place (bytes_of size value)) }
+    {
+        let [first, second, third, fourth] = value.to_le_bytes();
+        self.bytes[place] = first;
+        if size > 1 {
+            self.bytes[place + 1] = second;
+        }
+        if size > 2 {
+            self.bytes[place + 2] = third;
+            self.bytes[place + 3] = fourth;
+        }
+    }
+}

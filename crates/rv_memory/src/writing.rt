@@ -1,0 +1,79 @@
+//! Writes of bytes, wherever they lie: all of them or none.
+ghost use Rattle.std.specs.Prelude.{◌≡◌, ◌⊎◌, true, None, map, IfOk, IfErr};
+ghost use Rattle.rv_code.specs.Numbers.{bytes_of};
+ghost use Rattle.rv_memory.specs.Answers.{hole_or};
+ghost use Rattle.rv_memory.specs.Blocks.{memory_of};
+ghost use Rattle.rv_memory.specs.Memory.{is_writable, span, first_shut, with_byte, written};
+ghost use Rattle.rv_memory.specs.Outline.{AreInOrder, outline};
+
+use crate::Hole;
+use crate::place::place_of;
+use crate::reading::writable_at;
+use crate::stretch::Stretch;
+
+/// The first of `count` addresses that can't be written.
+pub fn shut_from(stretches: &[Stretch], address: u32, count: u8) -> Option<u32>
+    requires { AreInOrder stretches.now }
+    ensures { result ≡ first_shut (memory_of stretches.now) (span address count) }
+{
+    if count == 0 {
+        None
+    } else if writable_at(stretches, address) {
+        shut_from(stretches, address.wrapping_add(1), count - 1)
+    } else {
+        Some(address)
+    }
+}
+
+/// Puts a byte at an address that can be written.
+pub fn put_byte(stretches: &mut [Stretch], address: u32, byte: u8)
+    requires order { AreInOrder stretches.old }
+    requires free { is_writable (memory_of stretches.old) address ≡ true }
+    ensures put { memory_of stretches.new ≡ map (with_byte address byte) (memory_of stretches.old) }
+    ensures outline { outline stretches.new ≡ outline stretches.old }
+{
+    if let Some(place) = place_of(stretches, address) {
+        let stretch = &mut stretches[place];
+        let offset = (address - stretch.start()) as usize;
+        stretch.store(offset, 1, u32::from(byte));
+    }
+}
+
+/// Writes byte by byte, from the lowest on.
+pub fn scatter(stretches: &mut [Stretch], address: u32, count: u8, value: u32)
+    requires order { AreInOrder stretches.old }
+    requires free { first_shut (memory_of stretches.old) (span address count) ≡ None }
+    ensures put { memory_of stretches.new ≡ written (memory_of stretches.old) (span address count) (bytes_of count value) }
+    ensures outline { outline stretches.new ≡ outline stretches.old }
+{
+    if count > 0 {
+        put_byte(stretches, address, (value % 256) as u8);
+        scatter(stretches, address.wrapping_add(1), count - 1, value / 256);
+    }
+}
+
+/// Puts the lowest `size` bytes of a value from an address on. Where they lie in one stretch, it is looked up once.
+pub fn store(stretches: &mut [Stretch], address: u32, size: u8, value: u32) -> Result<(), Hole>
+    requires order { AreInOrder stretches.old }
+    requires size { (size ≡ 1) ⊎ ((size ≡ 2) ⊎ (size ≡ 4)) }
+    ensures answer { result ≡ hole_or (first_shut (memory_of stretches.old) (span address size)) tt }
+    ensures put { IfOk result (λ _. memory_of stretches.new ≡ written (memory_of stretches.old) (span address size) (bytes_of size value)) }
+    ensures kept { IfErr result (λ _. stretches.new ≡ stretches.old) }
+    ensures outline { outline stretches.new ≡ outline stretches.old }
+{
+    if let Some(place) = place_of(stretches, address) {
+        let stretch = &mut stretches[place];
+        let offset = (address - stretch.start()) as usize;
+        if stretch.is_writable() && stretch.len() - offset >= size as usize {
+            stretch.store(offset, size, value);
+            return Ok(());
+        }
+    }
+    match shut_from(stretches, address, size) {
+        Some(address) => Err(Hole { address }),
+        None => {
+            scatter(stretches, address, size, value);
+            Ok(())
+        }
+    }
+}
