@@ -1,0 +1,12 @@
+pub mod Runs
+pub mod Cells
+pub mod Mapped
+pub mod Given
+pub mod Ranges
+pub mod Words
+pub mod Steps
+pub mod Forward
+pub mod Loaded
+pub mod OneRange
+pub mod Once
+pub mod Begun

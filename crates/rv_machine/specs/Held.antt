@@ -1,0 +1,63 @@
+-- What a machine holds, and what it and the outside have to do with the state of a run.
+use Rattle.std.specs.Prelude.{ℕ, Bool, List, Option, None, Result, Ok, Err, is_some}
+use Rattle.rv_code.specs.declared.ending.Ending.{Ending}
+use Rattle.rv_code.specs.declared.image.Image.{Image}
+use Rattle.rv_code.specs.declared.extent.Extent.{Extent}
+use Rattle.rv_code.specs.Code.{extents_of}
+use Rattle.rv_machine.specs.declared.outcome.Outcome.{Outcome}
+use Rattle.rv_machine.specs.declared.outcome.MachineFault.{MachineFault}
+use Rattle.rv_memory.specs.Memory.{Cell}
+use Rattle.rv_machine.specs.State.{State}
+use Rattle.rv_machine.specs.Step.{Program}
+use Rattle.rv_machine.specs.Start.{first_registers}
+use Rattle.rv_memory.specs.Blocks.{memory_of, blocks_of}
+
+-- a machine: where its code stands, and of the state all but what the outside has
+pub record Held : Type 0 where
+  pub code : List Extent
+  pub has_note : Bool
+  pub pc : ℕ
+  pub registers : List ℕ
+  pub memory : List Cell
+  -- the ending or the fault that each later call answers, none while the machine can go on
+  pub kept : Option (Result Ending MachineFault)
+
+-- what the outside has of a state
+pub record Outside : Type 0 where
+  pub input : List ℕ
+  pub out : List ℕ
+  pub err : List ℕ
+  pub events : List ℕ
+
+abbrev pub program_in : Held → Program
+program_in held = record { code = held.code; has_note = held.has_note }
+
+-- the state of a machine and the outside together
+abbrev pub state_of : Held → Outside → State
+state_of held outside =
+    record {
+      pc = held.pc;
+      registers = held.registers;
+      memory = held.memory;
+      input = outside.input;
+      out = outside.out;
+      err = outside.err;
+      events = outside.events;
+    }
+
+-- a machine that has taken no step yet
+abbrev pub loaded_of : Image → Held
+loaded_of image =
+    record {
+      code = extents_of image.code;
+      has_note = is_some image.note;
+      pc = image.entry;
+      registers = first_registers;
+      memory = memory_of (blocks_of image.regions);
+      kept = None;
+    }
+
+-- the answer that a machine keeps, as an outcome
+abbrev pub kept_answer : Result Ending MachineFault → Result Outcome MachineFault
+kept_answer (Ok ending) = Ok (Outcome.Ended ending)
+kept_answer (Err fault) = Err fault

@@ -1,0 +1,95 @@
+-- Laws of steps and runs, in the words that the working calls' contracts use.
+use Rattle.std.specs.Prelude.{◌≡◌, ◌≢◌, ℕ, suc, ◌+◌, ◌≤◌, ⊤, Bool, List, [], ◌∷◌, ◌++◌, length, map, Option, None, Some, slice_index}
+use Rattle.std.specs.List.{AllByRecursion}
+use Rattle.ae_nums.specs.declared.item.Item.{Item}
+use Rattle.rv_code.specs.declared.ending.Ending.{Ending}
+use Rattle.rv_code.specs.declared.image.Image.{Image}
+use Rattle.rv_code.specs.Image.{IsImage}
+use Rattle.rv_code.specs.Numbers.{IsByte, IsWord}
+use Rattle.rv_memory.specs.Memory.{Cell, cell_at, written}
+use Rattle.rv_machine.specs.State.{State}
+use Rattle.rv_machine.specs.Step.{Program, AfterStep, step_of}
+use Rattle.rv_machine.specs.Run.{Run, run, items_from}
+use Rattle.rv_machine.specs.Start.{start_of}
+
+-- a run, and what comes after it where it hasn't ended
+abbrev pub joined : Option Ending → Run → Run → Run
+joined None before after = record { last = after.last; ending = after.ending; steps = before.steps + after.steps }
+joined (Some ending) before after = before
+
+-- the items of a run, and those of what comes after it where it hasn't ended
+abbrev pub items_joined : Option Ending → List Item → List Item → List Item
+items_joined None before after = before ++ after
+items_joined (Some ending) before after = before
+
+-- A run of m + n steps is a run of m and then, from its last state on, of n.
+abbrev pub RunsJoin : Type 0
+RunsJoin =
+    (program : Program) (m n : ℕ) (s : State)
+    → run program (m + n) s ≡ joined (run program m s).ending (run program m s) (run program n (run program m s).last)
+
+abbrev pub ItemsJoin : Type 0
+ItemsJoin =
+    (program : Program) (m n : ℕ) (s : State)
+    → items_from program (m + n) s
+    ≡ items_joined (run program m s).ending (items_from program m s) (items_from program n (run program m s).last)
+
+-- bytes put at addresses change no cell of another address
+abbrev pub KeepsOtherCells : Type 0
+KeepsOtherCells =
+    (memory : List Cell) (addresses bytes : List ℕ) (other : ℕ)
+    → AllByRecursion (λ address. address ≢ other) addresses
+    → cell_at (written memory addresses bytes) other ≡ cell_at memory other
+
+-- which addresses are mapped, and which of them are writable
+abbrev pub mapped : List Cell → List (ℕ × Bool)
+mapped memory = map (λ (cell : Cell). (cell.address, cell.writable)) memory
+
+-- a step maps and unmaps nothing
+abbrev pub KeepsMapped : Type 0
+KeepsMapped = (program : Program) (s : State) → AfterStep (step_of program s) (λ next. mapped next.memory ≡ mapped s.memory)
+
+-- cells from this address on, each behind the one before: so no address has two
+abbrev pub Rise : ℕ → List Cell → Type 0
+Rise low [] = ⊤
+Rise low (cell ∷ cells) = (low ≤ cell.address) × Rise (suc cell.address) cells
+
+-- a cell of a byte within the address space
+pub record IsCell (cell : Cell) : Type 0 where
+  pub address : IsWord cell.address
+  pub byte : IsByte cell.byte
+
+-- the numbers of a state are in their ranges, and each address has at most one byte
+pub record IsState (s : State) : Type 0 where
+  pub pc : IsWord s.pc
+  pub count : length s.registers ≡ 32
+  pub zero : slice_index s.registers 0 ≡ 0
+  pub registers : AllByRecursion IsWord s.registers
+  pub memory : AllByRecursion IsCell s.memory
+  pub once : Rise 0 s.memory
+  pub input : AllByRecursion IsByte s.input
+  pub out : AllByRecursion IsByte s.out
+  pub err : AllByRecursion IsByte s.err
+  pub events : AllByRecursion IsByte s.events
+
+-- so it is at the start, whatever the image and the input
+abbrev pub BeginsInRanges : Type 0
+BeginsInRanges = (image : Image) (input : List ℕ) → IsImage image → AllByRecursion IsByte input → IsState (start_of image input)
+
+-- a step keeps it so, and x0 at 0
+abbrev pub KeepsRanges : Type 0
+KeepsRanges = (program : Program) (s : State) → IsState s → AfterStep (step_of program s) IsState
+
+-- a list of bytes is the front of another
+abbrev pub IsFrontOf : List ℕ → List ℕ → Type 0
+IsFrontOf front whole = (rest : List ℕ) × (whole ≡ front ++ rest)
+
+-- the outputs and the event bytes of a state are fronts of another's
+pub record HasGiven (before after : State) : Type 0 where
+  pub out : IsFrontOf before.out after.out
+  pub err : IsFrontOf before.err after.err
+  pub events : IsFrontOf before.events after.events
+
+-- what was given stays given
+abbrev pub OutputsGrow : Type 0
+OutputsGrow = (program : Program) (count : ℕ) (s : State) → HasGiven s (run program count s).last

@@ -1,0 +1,14 @@
+pub mod State
+pub mod Effect
+pub mod Calls
+pub mod Step
+pub mod Run
+pub mod Start
+pub mod Events
+pub mod Dump
+pub mod Clean
+pub mod Held
+pub mod Built
+pub mod Placed
+pub mod Advance
+pub mod Laws

@@ -1,0 +1,16 @@
+//! The user-level machine that runs an image, and what its runs are.
+//!
+//! `specs/` has the whole of it: the state, the step with every ending and the table of calls, runs with their items and
+//! event bytes, dumps, and clean and good runs. [`laws`] has what holds of all runs.
+#![tactic(auto)]
+
+mod fetch;
+pub mod laws;
+mod loading;
+mod machine;
+mod outcome;
+#[cfg(test)]
+mod tests;
+
+pub use machine::Machine;
+pub use outcome::{MachineFault, Outcome};

@@ -1,0 +1,47 @@
+//! What a machine takes from an image: its bytes, where its code stands, and the registers at the start.
+ghost use Rattle.std.specs.Prelude.{◌≡◌, ◌+◌, ◌^◌, ◌<◌, ◌++◌, length, replicate, IfOk, All};
+ghost use Rattle.rv_code.specs.Code.{extents_of};
+ghost use Rattle.rv_machine.specs.Start.{first_registers};
+
+use rv_code::{Extent, Range, Region};
+use std::alloc::{AllocError, Global};
+
+/// Near the end of the stack, a multiple of 16.
+const FIRST_STACK_POINTER: u32 = 0x7fff_ffc0;
+
+/// A region's bytes and then its zeros.
+pub fn mapped_bytes(alloc: Global, region: &Region) -> Result<Vec<u8>, AllocError>
+    ensures { IfOk result (λ bytes. bytes.items ≡ region.now.bytes ++ replicate region.now.zeros 0) }
+{
+    let front = region.bytes.as_slice();
+    let length = front.len() + region.zeros as usize;
+    let mut bytes = Vec::with_capacity(alloc, length)?;
+    bytes.extend_from_slice(front)?;
+    bytes.resize(length, 0)?;
+    Ok(bytes)
+}
+
+/// Where the words of the ranges stand.
+pub fn code_extents(alloc: Global, ranges: &[Range]) -> Result<Vec<Extent>, AllocError>
+    requires { All (λ range. length range.words < 2 ^ 32) ranges.now }
+    ensures { IfOk result (λ extents. extents.items ≡ extents_of ranges.now) }
+{
+    let mut extents = Vec::with_capacity(alloc, ranges.len())?;
+    for range in ranges {
+        extents.push(Extent {
+            start: range.start,
+            count: range.words.as_slice().len() as u32,
+        })?;
+    }
+    Ok(extents)
+}
+
+/// The registers before the first step.
+#[tactic(auto, unfolding(crate::specs::Start::first_registers))]
+pub fn start_registers() -> [u32; 32]
+    ensures { result ≡ first_registers }
+{
+    let mut registers = [0; 32];
+    registers[2] = FIRST_STACK_POINTER;
+    registers
+}
