@@ -1,0 +1,4 @@
+pub mod Files
+pub mod Numbers
+pub mod Options
+pub mod Command
