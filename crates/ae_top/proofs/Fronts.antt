@@ -1,0 +1,69 @@
+-- The front of a file in a buffer grows by the piece that a get puts behind it.
+use Rattle.std.proofs.Common.{◌≡◌, ℕ, ◌+◌, ◌≤◌, List, ◌++◌, length, take, drop, Option, None, Some, Ok, Err, MatchOption, IfOk, Result, refl, sym, ◌∙◌, ap, subst, arith}
+use Rattle.std.proofs.Math.Seq.{take-add, take-append-add}
+use Rattle.std.proofs.lemmas.List.{take-take, length-take-le}
+use Rattle.std.proofs.lemmas.Slice.{take-put_mid}
+use Rattle.std.specs.Bool.{⊤}
+use borrow.Rule.Slice.PartMut.{put_mid}
+use Rattle.ae_ports.specs.declared.failed.Failed.{Failed}
+use Rattle.ae_ports.specs.Files.{Files, SameFiles, Copies, Gets}
+use Rattle.ae_top.specs.Reading.{IsRead}
+
+-- what holds of the file of this name, where the files are told
+abbrev OfFile : Option Files → List ℕ → (List ℕ → Type 0) → Type 0
+OfFile told name P = MatchOption told ⊤ (λ files. MatchOption (files name) ⊥ P)
+
+-- what holds of a file holds while the files stay the same
+of_file_after : (P : List ℕ → Type 0) (before now : Option Files) (name : List ℕ) → SameFiles before now → OfFile before name P → OfFile now name P
+of_file_after P None None name same was = tt
+of_file_after P None (Some now) name same was = absurd same
+of_file_after P (Some before) None name same was = absurd same
+of_file_after P (Some before) (Some now) name same was =
+    let Family : Option (List ℕ) → Type 0 = λ file. MatchOption file ⊥ P in subst Family (sym (same name)) was
+
+-- what two facts on a file give
+of_file_both : (P Q R : List ℕ → Type 0) (told : Option Files) (name : List ℕ) → ((all : List ℕ) → P all → Q all → R all) → OfFile told name P → OfFile told name Q → OfFile told name R
+of_file_both P Q R None name both p q = tt
+of_file_both P Q R (Some files) name both p q =
+    let Family : Option (List ℕ) → Type 0 = λ file. MatchOption file ⊥ P → MatchOption file ⊥ Q → MatchOption file ⊥ R in
+    let each : (file : Option (List ℕ)) → Family file = elim [ None ↦ λ none _. none | Some all ↦ λ p q. both all p q ] in
+    each (files name) p q
+
+-- a piece put behind the front of a buffer
+take_more : (got more k : ℕ) (buf piece : List ℕ) → got ≤ length buf → more ≤ length piece → take (got + more) (put_mid got k buf piece) ≡ take got buf ++ take more piece
+take_more got more k buf piece room within =
+    let front : length (take got buf) ≡ got = length-take-le got buf room in
+    let all : take (got + length piece) (put_mid got k buf piece) ≡ take got buf ++ piece = take-put_mid got k buf piece _ refl room in
+    let part : take (got + more) (take (got + length piece) (put_mid got k buf piece)) ≡ take (got + more) (put_mid got k buf piece) =
+    take-take _ _ _ (omega arith) in
+    let cut : take (length (take got buf) + more) (take got buf ++ piece) ≡ take got buf ++ take more piece = take-append-add (take got buf) piece more in
+    let Family : ℕ → Type 0 = λ n. take (n + more) (take got buf ++ piece) ≡ take got buf ++ take more piece in
+    sym part ∙ ap (take (got + more)) all ∙ subst Family front cut
+
+-- a piece of the file, behind its front
+front_joins :
+    (got more k : ℕ) (buf piece all : List ℕ) →
+    got ≤ length buf →
+    more ≤ length piece →
+    take got buf ≡ take got all →
+    Copies all got piece more →
+    take (got + more) (put_mid got k buf piece) ≡ take (got + more) all
+front_joins got more k buf piece all room within was copies =
+    let joined = take_more got more k buf piece room within in
+    let whole : take (got + more) all ≡ take got all ++ take more (drop got all) = take-add got more all in
+    let part = copies.front in
+    cc (joined, whole, part)
+
+pub read_more :
+    (told now : Option Files) (name : List ℕ) (got k : ℕ) (buf piece : List ℕ) (result : Result ℕ Failed) →
+    got ≤ length buf →
+    IfOk result (λ more. more ≤ length piece) →
+    IsRead told name got (take got buf) →
+    Gets told name got piece result →
+    SameFiles told now →
+    IfOk result (λ more. IsRead now name (got + more) (take (got + more) (put_mid got k buf piece)))
+read_more told now name got k buf piece (Err fault) room within was gets same = tt
+read_more told now name got k buf piece (Ok more) room within was gets same =
+    of_file_after (λ all. take (got + more) (put_mid got k buf piece) ≡ take (got + more) all) told now name same
+    (of_file_both (λ all. take got buf ≡ take got all) (λ all. Copies all got piece more) _ told name
+    (λ all here copies. front_joins got more k buf piece all room within here copies) was gets)

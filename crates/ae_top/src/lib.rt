@@ -1,0 +1,19 @@
+//! The top call of `ae`: it reads the words of a command line, carries out the command over the outside that it is
+//! handed, and answers with a status.
+#![tactic(auto)]
+
+mod command;
+mod dropped;
+mod lines;
+mod reading;
+mod row_bytes;
+mod row_file;
+mod run;
+mod status;
+mod telling;
+#[cfg(test)]
+mod tests;
+mod top;
+
+pub use status::Status;
+pub use top::ae;
