@@ -1,2 +1,3 @@
+pub mod Finished
 pub mod Places
 pub mod Reading

@@ -2,3 +2,5 @@ pub mod Hex
 pub mod Decimal
 pub mod Trace
 pub mod Taken
+pub mod Writer
+pub mod Gathering

@@ -4,10 +4,12 @@
 mod digits;
 mod hex;
 mod item;
+mod room;
 mod taker;
 mod text;
 mod trace;
 mod words;
+mod writer;
 
 pub use digits::{decimal, read_decimal};
 pub use hex::hex8;
@@ -16,6 +18,7 @@ pub use taker::Taker;
 pub use text::Text;
 pub use trace::item_line;
 pub use words::{put_u32, take_u32};
+pub use writer::TraceWriter;
 
 #[cfg(test)]
 mod tests;

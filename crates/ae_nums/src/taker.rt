@@ -1,4 +1,4 @@
-ghost use Rattle.std.specs.Prelude.{ℕ, List, Option};
+ghost use Rattle.std.specs.Prelude.{ℕ, List, [], ◌++◌};
 ghost use Rattle.ae_ports.specs.Fault.{HasCause};
 ghost use Rattle.ae_nums.specs.declared.item.Item.{Item};
 ghost use Rattle.ae_nums.specs.Taken.{Takes};
@@ -8,8 +8,9 @@ use ae_ports::Failed;
 
 /// Where the items of a trace go to, one by one and in order.
 pub trait Taker {
-    /// The items taken so far, where the taker tells them.
-    ghost told: { Self → Option (List Item) };
+    /// Between the first moment and the second, the taker took these items, in order, and no others. A taker that doesn't
+    /// tell says so of every list.
+    ghost took: { Self → Self → List Item → Type 0 };
 
     /// How many faults there were so far.
     ghost faults: { Self → ℕ };
@@ -19,9 +20,15 @@ pub trait Taker {
 
     /// Takes an item. After `Failed` it has taken the item or not.
     fn take(&mut self, item: Item) -> Result<(), Failed>
-        ensures content { Takes (told self.old) (told self.new) item result }
+        ensures content { Takes (took self.old self.new) item result }
         ensures cause { HasCause (faults self.old) (faults self.new) result }
         ensures rest { same_rest self.old self.new };
+
+    /// Between a moment and itself nothing was taken.
+    ghost took_nothing: { (taker : Self) → took taker taker [] };
+
+    /// What was taken before a moment and what was taken after it were taken, in this order.
+    ghost took_both: { (one two three : Self) (first second : List Item) → took one two first → took two three second → took one three (first ++ second) };
 
     /// A taker has the same rest as itself.
     ghost rest_stays: { (taker : Self) → same_rest taker taker };

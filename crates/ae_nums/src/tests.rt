@@ -1,5 +1,15 @@
-use crate::{Item, Taker, Text, decimal, hex8, item_line, put_u32, read_decimal, take_u32};
-use ae_ports::Failed;
+ghost use Rattle.std.specs.Prelude.{ℕ, ◌≤◌, length, take, OnOk, OnErr};
+ghost use Rattle.ae_ports.specs.Fault.{HasCause};
+ghost use Rattle.ae_ports.specs.Content.{Appends, AppendsFront};
+ghost use Rattle.ae_ports.specs.Files.{SameOthers, Replaces};
+ghost use Rattle.ae_nums.specs.Trace.{trace_text};
+
+use crate::{
+    Item, Taker, Text, TraceWriter, decimal, hex8, item_line, put_u32, read_decimal, take_u32,
+};
+use ae_ports::{Failed, MemorySink, MemoryStore, Sink, Store, StoreSink, Word};
+use std::alloc::{AllocError, Global};
+use std::test::Fail;
 
 #[test]
 fn writes_decimals(rt: HostRuntime) {
@@ -104,9 +114,11 @@ struct Kept {
 }
 
 impl Taker for Kept {
-    ghost use Rattle.std.specs.Prelude.{⊤, Some};
+    ghost use Rattle.std.specs.Prelude.{◌≡◌, ◌++◌, ⊤};
+    ghost use Rattle.std.proofs.Common.{◌∙◌, ap, append_assoc, sym};
+    ghost use Rattle.std.proofs.lemmas.List.{append-nil};
 
-    ghost told = { λ taker. Some taker.items.items };
+    ghost took = { λ one two items. two.items.items ≡ one.items.items ++ items };
 
     ghost faults = { λ taker. taker.faults };
 
@@ -122,6 +134,11 @@ impl Taker for Kept {
         self.faults = self.faults.saturating_add(1);
         Err(Failed)
     }
+
+    ghost took_nothing = { λ taker. sym (append-nil taker.items.items) };
+
+    ghost took_both = { λ one two three first second before after.
+        after ∙ (ap (λ items. items ++ second) before ∙ append_assoc one.items.items first second) };
 
     ghost rest_stays = { λ _. tt };
 
@@ -147,4 +164,125 @@ fn takes_items(rt: HostRuntime) {
         assert_eq!(rt; taker.items.len(), want, "at {calls}");
         assert_eq!(rt; taker.faults == 0, calls == 2, "at {calls}");
     }
+}
+
+/// Hands items to a taker, one by one, up to the first that fails.
+fn hand_all<T: Taker>(taker: &mut T, items: &[Item]) -> Result<(), Failed>
+    ensures all { OnOk result (T.took taker.old taker.new items.now) }
+    ensures front { OnErr result ((count : ℕ) × (count ≤ length items.now) ×
+        T.took taker.old taker.new (take count items.now)) }
+    ensures cause { HasCause (T.faults taker.old) (T.faults taker.new) result }
+    ensures rest { T.same_rest taker.old taker.new }
+{
+    for item in items {
+        taker.take(*item)?;
+    }
+    Ok(())
+}
+
+/// Writes the lines of some items to a sink.
+fn lines_to<K: Sink>(sink: &mut K, items: &[Item]) -> Result<(), Failed>
+    ensures all { OnOk result (Appends (K.told sink.old) (K.told sink.new) (trace_text items.now)) }
+    ensures front { OnErr result (AppendsFront (K.told sink.old) (K.told sink.new) (trace_text items.now)) }
+    ensures cause { HasCause (K.faults sink.old) (K.faults sink.new) result }
+    ensures rest { K.same_rest sink.old sink.new }
+{
+    let mut lines = TraceWriter::new(sink);
+    let handed = hand_all(&mut lines, items);
+    let written = lines.finish();
+    handed?;
+    written
+}
+
+/// Makes a file of the lines of some items.
+fn write_lines<S: Store>(store: &mut S, name: &Word, items: &[Item]) -> Result<(), Failed>
+    ensures content { Replaces (S.told store.old) (S.told store.new) name.now (trace_text items.now) result }
+    ensures others { SameOthers (S.told store.old) (S.told store.new) name.now }
+    ensures cause { HasCause (S.faults store.old) (S.faults store.new) result }
+    ensures rest { S.same_rest store.old store.new }
+{
+    store.make(name)?;
+    let mut sink = StoreSink::new(store, name);
+    lines_to(&mut sink, items)
+}
+
+// Three items, and their lines.
+const THREE: [Item; 3] = [
+    Item::Fetch(0x0001_0074),
+    Item::Read {
+        address: 0x0001_1000,
+        size: 4,
+    },
+    Item::Write {
+        address: 0x7fff_ffbc,
+        size: 1,
+    },
+];
+
+const THREE_LINES: &[u8] = b"I 00010074\nR 00011000 4\nW 7fffffbc 1\n";
+
+/// The three items, three hundred times. Their lines have 11100 bytes, and lines of 4094 bytes fill the room twice.
+fn nine_hundred(alloc: Global) -> Result<Vec<Item>, AllocError> {
+    let mut items = Vec::new(alloc);
+    for _ in 0..300 {
+        items.extend_from_slice(&THREE)?;
+    }
+    Ok(items)
+}
+
+/// Whether these are the first bytes of the lines of the three items, again and again.
+fn is_front(bytes: &[u8]) -> bool {
+    bytes.chunks(37).all(|chunk| THREE_LINES.starts_with(chunk))
+}
+
+#[test]
+fn writes_traces(rt: HostRuntime) -> Result<(), Fail> {
+    let alloc = rt.alloc();
+    let items = nine_hundred(alloc)?;
+    for (fails, size) in [(0, 0), (1, 4094), (2, 8188), (3, 11100)] {
+        let mut sink = MemorySink::new(alloc, [fails].to_vec(alloc)?);
+        let written = lines_to(&mut sink, &items);
+        assert_eq!(rt; written.is_ok(), fails == 3, "at {fails}");
+        assert_eq!(rt; sink.taken().len(), size, "at {fails}");
+        assert!(rt; is_front(sink.taken()), "at {fails}");
+        assert_eq!(rt; sink.starved(), 0);
+    }
+    Ok(())
+}
+
+#[test]
+fn writes_files(rt: HostRuntime) -> Result<(), Fail> {
+    let alloc = rt.alloc();
+    let items = nine_hundred(alloc)?;
+    let name = Word::from_bytes(alloc, b"trace")?;
+    for (fails, size) in [
+        (0, None),
+        (1, Some(0)),
+        (2, Some(4094)),
+        (3, Some(8188)),
+        (4, Some(11100)),
+    ] {
+        let mut store = MemoryStore::new(alloc, [fails].to_vec(alloc)?);
+        let written = write_lines(&mut store, &name, &items);
+        assert_eq!(rt; written.is_ok(), fails == 4, "at {fails}");
+        let file = store.file(&name);
+        assert_eq!(rt; file.map(|bytes| bytes.len()), size, "at {fails}");
+        assert!(rt; file.is_none_or(|bytes| is_front(bytes)), "at {fails}");
+        assert_eq!(rt; store.starved(), 0);
+    }
+    Ok(())
+}
+
+#[test]
+fn stops_at_a_fault(rt: HostRuntime) -> Result<(), Fail> {
+    let alloc = rt.alloc();
+    let items = nine_hundred(alloc)?;
+    let mut sink = MemorySink::new(alloc, [1].to_vec(alloc)?);
+    let mut lines = TraceWriter::new(&mut sink);
+    assert!(rt; hand_all(&mut lines, &items).is_err());
+    assert!(rt; hand_all(&mut lines, &items).is_ok());
+    assert!(rt; lines.finish().is_err());
+    assert!(rt; lines.finish().is_err());
+    assert_eq!(rt; sink.taken().len(), 4094);
+    Ok(())
 }
