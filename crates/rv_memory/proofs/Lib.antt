@@ -1,5 +1,6 @@
 pub mod Begun
 pub mod Order
 pub mod ReadBytes
+pub mod RunBytes
 pub mod Sample
 pub mod WrittenBytes

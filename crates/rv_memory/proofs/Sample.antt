@@ -12,7 +12,10 @@ abbrev pub first : Region
 first = record { start = 0; bytes = 0x13 ∷ 0 ∷ 0 ∷ 0 ∷ 0x44 ∷ 0x55 ∷ []; zeros = 0; writable = false }
 
 abbrev pub second : Region
-second = record { start = 6; bytes = 0x66 ∷ 0x77 ∷ []; zeros = 2; writable = true }
+second = record { start = 6; bytes = 0x66 ∷ 0x77 ∷ []; zeros = 0; writable = true }
+
+abbrev pub third : Region
+third = record { start = 8; bytes = []; zeros = 2; writable = true }
 
 abbrev pub last : Region
 last = record { start = 0xfffffffe; bytes = 0xee ∷ 0xff ∷ []; zeros = 0; writable = true }
@@ -37,13 +40,16 @@ first_is =
 second_is : IsRegion true second
 second_is = record { some = omega arith; bytes = (omega arith, (omega arith, tt)); allowed = inl (omega arith) }
 
+third_is : IsRegion true third
+third_is = record { some = omega arith; bytes = tt; allowed = inl (omega arith) }
+
 last_is : IsRegion true last
 last_is = record { some = omega arith; bytes = (omega arith, (omega arith, tt)); allowed = inr (refl, omega arith, omega arith) }
 
 holds : HoldsWords first range
 holds = record { above = omega arith; below = omega arith; same = refl }
 
-range_is : IsRange (first ∷ second ∷ last ∷ []) range
+range_is : IsRange (first ∷ second ∷ third ∷ last ∷ []) range
 range_is = record { some = omega arith; aligned = refl; words = (omega arith, tt); held = (0, first, omega arith, refl, holds) }
 
 note_is : IsNote (note_with [])
@@ -57,11 +63,11 @@ note_is =
       originals = tt;
     }
 
-sample_is : IsImage (image_with (first ∷ second ∷ last ∷ []) (range ∷ []) [] [] [])
+sample_is : IsImage (image_with (first ∷ second ∷ third ∷ last ∷ []) (range ∷ []) [] [] [])
 sample_is =
     record {
-      regions = (first_is, (second_is, (last_is, tt)));
-      regions_rise = (omega arith, (omega arith, tt));
+      regions = (first_is, (second_is, (third_is, (last_is, tt))));
+      regions_rise = (omega arith, (omega arith, (omega arith, tt)));
       ranges = (range_is, tt);
       ranges_rise = tt;
       entry = refl;
@@ -74,5 +80,5 @@ sample_is =
 
 -- an image whose parts are these
 pub image_is : (regions : List Region) (code : List Range) (names : List Name) (named : List ℕ) (marks : List Mark)
-    → regions ≡ first ∷ second ∷ last ∷ [] → code ≡ range ∷ [] → names ≡ [] → named ≡ [] → marks ≡ [] → IsImage (image_with regions code names named marks)
+    → regions ≡ first ∷ second ∷ third ∷ last ∷ [] → code ≡ range ∷ [] → names ≡ [] → named ≡ [] → marks ≡ [] → IsImage (image_with regions code names named marks)
 image_is regions code names named marks r c n d m = rw r (rw c (rw n (rw d (rw m sample_is))))

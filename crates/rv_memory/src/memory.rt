@@ -1,4 +1,4 @@
-ghost use Rattle.std.specs.Prelude.{◌≡◌, ◌⊎◌, false, None, [], length, IfOk, IfErr};
+ghost use Rattle.std.specs.Prelude.{◌≡◌, ◌⊎◌, ◌^◌, ◌<◌, true, false, None, [], length, IfOk, IfErr};
 ghost use Rattle.rv_code.specs.Image.{IsImage};
 ghost use Rattle.rv_code.specs.Numbers.{bytes_of, number_of};
 ghost use Rattle.rv_memory.specs.Answers.{hole_or};
@@ -9,9 +9,9 @@ ghost use Rattle.rv_memory.specs.Places.{bytes_behind};
 
 use crate::Hole;
 use crate::loading::stretches_of;
-use crate::reading::{extent_of, fetch, mapped_at, rest_from, writable_at};
+use crate::reading::{extent_of, fetch, mapped_at, rest_from, room_at, word_near, writable_at};
 use crate::stretch::Stretch;
-use crate::writing::store;
+use crate::writing::{store, store_all};
 use rv_code::Image;
 use std::alloc::{AllocError, Global};
 use std::marker::Model;
@@ -55,9 +55,18 @@ impl Memory {
     /// The first address of them where nothing is mapped.
     pub fn read(&self, address: u32, size: u8) -> Result<u32, Hole>
         requires { (size ≡ 1) ⊎ ((size ≡ 2) ⊎ (size ≡ 4)) }
-        ensures { result ≡ hole_or (first_hole (memory_of self.now) (span address size)) (number_of (bytes_at (memory_of self.now) (span address size))) }
+        ensures answer { result ≡ hole_or (first_hole (memory_of self.now) (span address size)) (number_of (bytes_at (memory_of self.now) (span address size))) }
+        ensures small { IfOk result (λ number. number < 256 ^ size) }
     {
         fetch(&self.stretches, address, size)
+    }
+
+    /// The number of the four bytes from an address on, the lowest first. A byte that isn't mapped counts as 0. `near` is
+    /// the number of the region where the last ones were found, which is looked at first.
+    pub fn word(&self, near: &mut usize, address: u32) -> u32
+        ensures { result ≡ number_of (bytes_at (memory_of self.now) (span address 4)) }
+    {
+        word_near(&self.stretches, near, address)
     }
 
     /// Puts the lowest `size` bytes of a value from an address on, the lowest first.
@@ -73,6 +82,15 @@ impl Memory {
         ensures outline { outline self.new ≡ outline self.old }
     {
         store(&mut self.stretches, address, size, value)
+    }
+
+    /// Puts bytes from an address on, all of which have to be writable.
+    pub fn put(&mut self, address: u32, bytes: &[u8])
+        requires { first_shut (memory_of self.old) (span address (length bytes.now)) ≡ None }
+        ensures put { memory_of self.new ≡ written (memory_of self.old) (span address (length bytes.now)) bytes.now }
+        ensures outline { outline self.new ≡ outline self.old }
+    {
+        store_all(&mut self.stretches, address, bytes)
     }
 
     /// Whether a byte is mapped at the address.
@@ -105,5 +123,14 @@ impl Memory {
         ensures empty { result.now ≡ [] → is_mapped (memory_of self.now) address ≡ false }
     {
         rest_from(&self.stretches, address)
+    }
+
+    /// How many bytes from an address to the end of its region can be written, none where it isn't mapped writable.
+    pub fn room_from(&self, address: u32) -> usize
+        ensures free { first_shut (memory_of self.now) (span address result) ≡ None }
+        ensures none { result ≡ 0 → is_writable (memory_of self.now) address ≡ false }
+        ensures to_the_end { is_writable (memory_of self.now) address ≡ true → result ≡ length (bytes_behind self.now address) }
+    {
+        room_at(&self.stretches, address)
     }
 }

@@ -30,3 +30,15 @@ pub fn place_of(stretches: &[Stretch], address: u32) -> Option<usize>
         None
     }
 }
+
+/// The number of the stretch that the address lies in. The stretch with the number `near` is looked at first.
+pub fn near_place(stretches: &[Stretch], near: usize, address: u32) -> Option<usize>
+    requires { AreInOrder stretches.now }
+    ensures { MatchOption result (IsNowhere stretches.now address) (λ place. HasAddress stretches.now place address) }
+{
+    if near < stretches.len() && stretches[near].has_address(address) {
+        Some(near)
+    } else {
+        place_of(stretches, address)
+    }
+}

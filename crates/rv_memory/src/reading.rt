@@ -1,21 +1,22 @@
 //! Reads of bytes, wherever they lie.
-ghost use Rattle.std.specs.Prelude.{◌≡◌, ◌⊎◌, ◌^◌, ◌<◌, ◌≤◌, false, None, [], length, take, IfOk};
+ghost use Rattle.std.specs.Prelude.{◌≡◌, ◌⊎◌, ◌^◌, ◌<◌, ◌≤◌, true, false, None, [], length, take, IfOk};
 ghost use Rattle.rv_code.specs.Numbers.{number_of};
 ghost use Rattle.rv_memory.specs.Answers.{hole_or};
 ghost use Rattle.rv_memory.specs.Blocks.{memory_of};
-ghost use Rattle.rv_memory.specs.Memory.{is_mapped, is_writable, span, bytes_at, first_hole};
+ghost use Rattle.rv_memory.specs.Memory.{is_mapped, is_writable, byte_at, span, bytes_at, first_hole, first_shut};
 ghost use Rattle.rv_memory.specs.Outline.{AreInOrder, region_at};
 ghost use Rattle.rv_memory.specs.Places.{bytes_behind};
 
 use crate::Hole;
-use crate::place::place_of;
+use crate::place::{near_place, place_of};
 use crate::stretch::Stretch;
 
 /// The number of the first `size` bytes, the lowest first.
 pub fn number_from(bytes: &[u8], size: u8) -> u32
     requires size { (size ≡ 1) ⊎ ((size ≡ 2) ⊎ (size ≡ 4)) }
     requires enough { size ≤ length bytes.now }
-    ensures { result ≡ number_of (take size bytes.now) }
+    ensures number { result ≡ number_of (take size bytes.now) }
+    ensures small { result < 256 ^ size }
 {
     match size {
         1 => u32::from(bytes[0]),
@@ -78,7 +79,8 @@ pub fn rest_from(stretches: &[Stretch], address: u32) -> &[u8]
 pub fn fetch(stretches: &[Stretch], address: u32, size: u8) -> Result<u32, Hole>
     requires order { AreInOrder stretches.now }
     requires size { (size ≡ 1) ⊎ ((size ≡ 2) ⊎ (size ≡ 4)) }
-    ensures { result ≡ hole_or (first_hole (memory_of stretches.now) (span address size)) (number_of (bytes_at (memory_of stretches.now) (span address size))) }
+    ensures answer { result ≡ hole_or (first_hole (memory_of stretches.now) (span address size)) (number_of (bytes_at (memory_of stretches.now) (span address size))) }
+    ensures small { IfOk result (λ number. number < 256 ^ size) }
 {
     let bytes = rest_from(stretches, address);
     if bytes.len() >= size as usize {
@@ -105,4 +107,64 @@ pub fn gather(stretches: &[Stretch], address: u32, count: u8) -> Result<u32, Hol
     let byte = stretch.byte((address - stretch.start()) as usize);
     let rest = gather(stretches, address.wrapping_add(1), count - 1)?;
     Ok(u32::from(byte) + 256 * rest)
+}
+
+/// The number of four bytes from an address on. A byte that isn't mapped counts as 0. `near` is the number of the stretch
+/// where the last ones were found, which is looked at first.
+pub fn word_near(stretches: &[Stretch], near: &mut usize, address: u32) -> u32
+    requires { AreInOrder stretches.now }
+    ensures { result ≡ number_of (bytes_at (memory_of stretches.now) (span address 4)) }
+{
+    if let Some(place) = near_place(stretches, *near, address) {
+        *near = place;
+        let stretch = &stretches[place];
+        let bytes = stretch.from_place((address - stretch.start()) as usize);
+        if bytes.len() >= 4 {
+            return number_from(bytes, 4);
+        }
+    }
+    word_by_byte(stretches, address)
+}
+
+/// The same, byte by byte.
+fn word_by_byte(stretches: &[Stretch], address: u32) -> u32
+    requires { AreInOrder stretches.now }
+    ensures { result ≡ number_of (bytes_at (memory_of stretches.now) (span address 4)) }
+{
+    u32::from_le_bytes([
+        byte_or_zero(stretches, address),
+        byte_or_zero(stretches, address.wrapping_add(1)),
+        byte_or_zero(stretches, address.wrapping_add(2)),
+        byte_or_zero(stretches, address.wrapping_add(3)),
+    ])
+}
+
+/// The byte at an address, 0 where none is mapped.
+fn byte_or_zero(stretches: &[Stretch], address: u32) -> u8
+    requires { AreInOrder stretches.now }
+    ensures { result ≡ byte_at (memory_of stretches.now) address }
+{
+    match place_of(stretches, address) {
+        Some(place) => {
+            let stretch = &stretches[place];
+            stretch.byte((address - stretch.start()) as usize)
+        }
+        None => 0,
+    }
+}
+
+/// How many bytes from an address to the end of its stretch can be written.
+pub fn room_at(stretches: &[Stretch], address: u32) -> usize
+    requires { AreInOrder stretches.now }
+    ensures free { first_shut (memory_of stretches.now) (span address result) ≡ None }
+    ensures none { result ≡ 0 → is_writable (memory_of stretches.now) address ≡ false }
+    ensures to_the_end { is_writable (memory_of stretches.now) address ≡ true → result ≡ length (bytes_behind stretches.now address) }
+{
+    match place_of(stretches, address) {
+        Some(place) if stretches[place].is_writable() => {
+            let stretch = &stretches[place];
+            stretch.len() - (address - stretch.start()) as usize
+        }
+        _ => 0,
+    }
 }

@@ -1,4 +1,4 @@
-ghost use Rattle.std.specs.Prelude.{◌≡◌, ◌⊎◌, ◌+◌, ◌-◌, ◌<◌, ◌≤◌, length, drop, slice_index};
+ghost use Rattle.std.specs.Prelude.{◌≡◌, ◌⊎◌, ◌↔◌, ◌+◌, ◌-◌, ◌<◌, ◌≤◌, IsTrue, length, drop, slice_index};
 ghost use Rattle.rv_code.specs.Numbers.{bytes_of};
 
 use std::marker::Model;
@@ -21,6 +21,7 @@ impl Model for Stretch {
 
 impl Stretch {
     ghost use Rattle.rv_memory.specs.Blocks.{Block};
+    ghost use Rattle.rv_memory.specs.Outline.{block_end};
     ghost use Rattle.rv_memory.specs.Stored.{with_bytes, stored};
 
     /// These bytes, from this address on.
@@ -55,6 +56,13 @@ impl Stretch {
         self.writable
     }
 
+    /// Whether one of the bytes has this address.
+    pub fn has_address(&self, address: u32) -> bool
+        ensures { IsTrue result ↔ (self.now.start ≤ address) × (address < block_end self.now) }
+    {
+        address >= self.start && ((address - self.start) as usize) < self.bytes.len()
+    }
+
     /// The bytes from this place on.
     pub fn from_place(&self, place: usize) -> &[u8]
         requires { place ≤ length self.now.bytes }
@@ -86,5 +94,13 @@ impl Stretch {
             self.bytes[place + 2] = third;
             self.bytes[place + 3] = fourth;
         }
+    }
+
+    /// Puts bytes over others, from this place on.
+    pub fn store_bytes(&mut self, place: usize, bytes: &[u8])
+        requires { place + length bytes.now ≤ length self.old.bytes }
+        ensures { self.new ≡ with_bytes self.old (stored self.old.bytes place bytes.now) }
+    {
+        self.bytes[place..place + bytes.len()].copy_from_slice(bytes);
     }
 }

@@ -1,12 +1,14 @@
-ghost use Rattle.std.specs.Prelude.{IfOk};
+ghost use Rattle.std.specs.Prelude.{◌≡◌, IfOk};
 ghost use Rattle.rv_code.specs.Image.{IsImage};
+ghost use Rattle.rv_memory.specs.Blocks.{memory_of};
+ghost use Rattle.rv_memory.specs.Memory.{span, first_shut};
 
 use crate::{Hole, Memory};
 use rv_code::{Image, ListOf, Note, Range, Region};
 use std::alloc::{AllocError, Global};
 use std::test::Fail;
 
-/// An image whose regions meet: two at the start of the address space, and one at its end. The first can't be written,
+/// An image whose regions meet: three at the start of the address space, and one at its end. The first can't be written,
 /// and has the one code word.
 fn sample(alloc: Global) -> Result<Image, AllocError>
     ensures { IfOk result IsImage }
@@ -20,6 +22,12 @@ fn sample(alloc: Global) -> Result<Image, AllocError>
     let second = Region {
         start: 6,
         bytes: ListOf::from_vec(vec![in alloc; 0x66, 0x77]?),
+        zeros: 0,
+        writable: true,
+    };
+    let third = Region {
+        start: 8,
+        bytes: ListOf::from_vec(Vec::new(alloc)),
         zeros: 2,
         writable: true,
     };
@@ -43,7 +51,7 @@ fn sample(alloc: Global) -> Result<Image, AllocError>
     };
     Ok(Image {
         entry: 0,
-        regions: ListOf::from_vec(vec![in alloc; first, second, last]?),
+        regions: ListOf::from_vec(vec![in alloc; first, second, third, last]?),
         code: ListOf::from_vec(vec![in alloc; range]?),
         names: ListOf::from_vec(Vec::new(alloc)),
         named: ListOf::from_vec(Vec::new(alloc)),
@@ -144,25 +152,77 @@ const LATER: [(u32, u8, Result<u32, Hole>); 7] = [
 ];
 
 /// The numbers of regions, their starts and their lengths.
-const REGIONS: [(u32, Option<(u32, u32)>); 6] = [
+const REGIONS: [(u32, Option<(u32, u32)>); 7] = [
     (0, Some((0, 6))),
-    (1, Some((6, 4))),
-    (2, Some((0x7ff0_0000, 0x10_0000))),
-    (3, Some((0xffff_fffe, 2))),
-    (4, None),
+    (1, Some((6, 2))),
+    (2, Some((8, 2))),
+    (3, Some((0x7ff0_0000, 0x10_0000))),
+    (4, Some((0xffff_fffe, 2))),
+    (5, None),
     (u32::MAX, None),
 ];
 
-/// Addresses, whether they are readable and writable, and how many bytes there are to the end of their region.
-const PLACES: [(u32, bool, bool, usize); 7] = [
-    (0, true, false, 6),
-    (5, true, false, 1),
-    (6, true, true, 4),
-    (10, false, false, 0),
-    (0x7ff0_0000, true, true, 0x10_0000),
-    (0x8000_0000, false, false, 0),
-    (0xffff_ffff, true, true, 1),
+/// Addresses, whether they are readable and writable, how many bytes there are to the end of their region, and how many
+/// of them can be written.
+const PLACES: [(u32, bool, bool, usize, usize); 11] = [
+    (0, true, false, 6, 0),
+    (5, true, false, 1, 0),
+    (6, true, true, 2, 2),
+    (7, true, true, 1, 1),
+    (8, true, true, 2, 2),
+    (10, false, false, 0, 0),
+    (0x7ff0_0000, true, true, 0x10_0000, 0x10_0000),
+    (0x7fff_ffff, true, true, 1, 1),
+    (0x8000_0000, false, false, 0, 0),
+    (0xffff_fffe, true, true, 2, 2),
+    (0xffff_ffff, true, true, 1, 1),
 ];
+
+/// Bytes that are put, one row after another: the address, the bytes and how many of them.
+const PUTS: [(u32, [u8; 4], usize); 6] = [
+    // nothing, where nothing can be written
+    (0, [1, 2, 3, 4], 0),
+    // from one region into the next
+    (6, [0xa6, 0xa7, 0xa8, 0xa9], 4),
+    (7, [0xb7, 0xb8, 0xff, 0xff], 2),
+    // to the end of a region
+    (0x7ff0_0000, [0x10, 0x20, 0x30, 0x40], 4),
+    (0x7fff_fffe, [0x50, 0x60, 0xff, 0xff], 2),
+    (0xffff_fffe, [0xe1, 0xf1, 0xff, 0xff], 2),
+];
+
+/// The words from addresses on after that, whose bytes are 0 where none is mapped.
+const WORDS: [(u32, u32); 13] = [
+    (0, 0x13),
+    (1, 0x4400_0000),
+    // from one region into the next
+    (3, 0xa655_4400),
+    (4, 0xb7a6_5544),
+    (6, 0xa9b8_b7a6),
+    // off the end, and before the start
+    (8, 0xa9b8),
+    (10, 0),
+    (0x7fef_fffd, 0x1000_0000),
+    (0x7ff0_0000, 0x4030_2010),
+    (0x7fff_fffc, 0x6050_0000),
+    (0x7fff_ffff, 0x60),
+    // round the end of the address space
+    (0xffff_fffd, 0x13f1_e100),
+    (0xffff_ffff, 0x13f1),
+];
+
+/// The first of some addresses that can't be written.
+fn shut_among(memory: &Memory, address: u32, count: usize) -> Option<u32>
+    ensures { result ≡ first_shut (memory_of memory.now) (span address count) }
+{
+    if count == 0 {
+        None
+    } else if memory.writable(address) {
+        shut_among(memory, address.wrapping_add(1), count - 1)
+    } else {
+        Some(address)
+    }
+}
 
 #[test]
 fn accesses_answer(rt: HostRuntime) -> Result<(), Fail> {
@@ -191,10 +251,29 @@ fn accesses_answer(rt: HostRuntime) -> Result<(), Fail> {
     for (number, answer) in REGIONS {
         assert_eq!(rt; memory.region(number), answer, "region {number}");
     }
-    for (address, readable, writable, count) in PLACES {
+    for (address, readable, writable, count, room) in PLACES {
         assert_eq!(rt; memory.readable(address), readable, "at {address:x}");
         assert_eq!(rt; memory.writable(address), writable, "at {address:x}");
         assert_eq!(rt; memory.bytes_from(address).len(), count, "at {address:x}");
+        assert_eq!(rt; memory.room_from(address), room, "at {address:x}");
+    }
+    Ok(())
+}
+
+#[test]
+fn puts_bytes(rt: HostRuntime) -> Result<(), Fail> {
+    let alloc = rt.alloc();
+    let mut memory = Memory::load(alloc, &sample(alloc)?)?;
+    for (address, bytes, count) in PUTS {
+        assert!(rt; count <= 4);
+        assert!(rt; shut_among(&memory, address, count).is_none());
+        memory.put(address, &bytes[..count]);
+    }
+    let mut near = 0;
+    for (address, word) in WORDS {
+        assert_eq!(rt; memory.word(&mut near, address), word, "at {address:x}");
+        let mut far = usize::MAX;
+        assert_eq!(rt; memory.word(&mut far, address), word, "at {address:x}");
     }
     Ok(())
 }

@@ -1,5 +1,5 @@
 //! Writes of bytes, wherever they lie: all of them or none.
-ghost use Rattle.std.specs.Prelude.{◌≡◌, ◌⊎◌, true, None, map, IfOk, IfErr};
+ghost use Rattle.std.specs.Prelude.{◌≡◌, ◌⊎◌, ◌^◌, ◌<◌, ◌≤◌, true, None, length, map, take, IfOk, IfErr};
 ghost use Rattle.rv_code.specs.Numbers.{bytes_of};
 ghost use Rattle.rv_memory.specs.Answers.{hole_or};
 ghost use Rattle.rv_memory.specs.Blocks.{memory_of};
@@ -76,4 +76,45 @@ pub fn store(stretches: &mut [Stretch], address: u32, size: u8, value: u32) -> R
             Ok(())
         }
     }
+}
+
+/// Puts as many of some bytes as there is room for from an address to the end of its stretch, and answers how many.
+fn store_some(stretches: &mut [Stretch], address: u32, bytes: &[u8]) -> usize
+    requires order { AreInOrder stretches.old }
+    requires some { 0 < length bytes.now }
+    requires free { first_shut (memory_of stretches.old) (span address (length bytes.now)) ≡ None }
+    ensures some { 0 < result }
+    ensures few { result ≤ length bytes.now }
+    ensures small { result < 2 ^ 32 }
+    ensures put { memory_of stretches.new ≡ written (memory_of stretches.old) (span address result) (take result bytes.now) }
+    ensures outline { outline stretches.new ≡ outline stretches.old }
+{
+    match place_of(stretches, address) {
+        Some(place) => {
+            let stretch = &mut stretches[place];
+            let offset = (address - stretch.start()) as usize;
+            let count = bytes.len().min(stretch.len() - offset);
+            stretch.store_bytes(offset, &bytes[..count]);
+            count
+        }
+        None => 0,
+    }
+}
+
+/// Puts bytes from an address on, all of which can be written. Each stretch is looked up once.
+pub fn store_all(stretches: &mut [Stretch], address: u32, bytes: &[u8])
+    requires order { AreInOrder stretches.old }
+    requires free { first_shut (memory_of stretches.old) (span address (length bytes.now)) ≡ None }
+    ensures put { memory_of stretches.new ≡ written (memory_of stretches.old) (span address (length bytes.now)) bytes.now }
+    ensures outline { outline stretches.new ≡ outline stretches.old }
+{
+    if bytes.is_empty() {
+        return;
+    }
+    let count = store_some(stretches, address, bytes);
+    store_all(
+        stretches,
+        address.wrapping_add(count as u32),
+        &bytes[count..],
+    );
 }
