@@ -10,14 +10,17 @@ use Rattle.rv_code.specs.declared.image.Range.{Range}
 use Rattle.rv_code.specs.declared.image.Region.{Region}
 use Rattle.rv_code.specs.Addresses.{stack_start, stack_length}
 use Rattle.rv_code.specs.Code.{is_word_of, is_code, extent_end, extent_of, extents_of}
-use Rattle.rv_code.specs.Image.{IsRegion, IsRange}
+use Rattle.rv_code.specs.Image.{region_end, IsRegion, IsRange}
 use Rattle.rv_code.specs.Numbers.{IsByte, IsWord}
 use Rattle.rv_machine.specs.Laws.{IsCell, BeginsInRanges}
 use Rattle.rv_machine.specs.Start.{first_registers}
 use Rattle.rv_memory.specs.Blocks.{Block, stack, block_of, blocks_of, cells_from, cells_of, memory_of}
-use Rattle.rv_machine.proofs.Loaded.{region_fits}
 use Rattle.rv_machine.proofs.Once.{memory_begins}
 use Rattle.rv_machine.proofs.Ranges.{AreCells, all_of_both, zeros_are_bytes, words-set}
+
+-- a region of an image ends within the address space
+region_fits : (has_note : Bool) (region : Region) → IsRegion has_note region → region_end region ≤ 2 ^ 32
+region_fits has_note region is = elim is.allowed [ inl below ↦ omega (arith, below) | inr above ↦ above.2 ]
 
 -- a code word lies below 2^32
 at_place : (P : Region → Type 0) (regions : List Region) → AllByRecursion P regions → (place : ℕ) (other : Region) → place < length regions → P (get_or regions place other)

@@ -1,38 +1,177 @@
--- What one step of the machine's code does, by what it keeps then.
-use Rattle.std.specs.Prelude.{◌≡◌, Bool, true, false, List, Option, None, Some, Result, Ok, Err}
+-- What the parts of a step do, by what comes of it: `outcome` gives it at whatever the outside has.
+use Rattle.std.specs.Prelude.{◌≡◌, ℕ, ◌+◌, ◌<◌, ◌≤◌, ◌&&◌, nat_le, is_none, Bool, true, false, List, [], ◌++◌, length, Option, Some, None, Result, Ok, Err}
+use Rattle.std.specs.List.{list_all}
+use Rattle.std.specs.Option.{option_to_list}
 use Rattle.ae_nums.specs.declared.item.Item.{Item}
+use Rattle.ae_ports.specs.declared.failed.Failed.{Failed}
+use Rattle.ae_ports.specs.Content.{Consumes, Appends, AppendsFront, IsAtEnd}
+use Rattle.rv_code.specs.Addresses.{tracer_start}
 use Rattle.rv_code.specs.declared.ending.Ending.{Ending}
 use Rattle.rv_code.specs.declared.instr.Instr.{Instr}
+use Rattle.rv_memory.specs.Blocks.{memory_of}
+use Rattle.rv_memory.specs.Memory.{Cell, span, bytes_at, first_hole, written}
+use Rattle.rv_code.specs.Numbers.{wrap}
 use Rattle.rv_machine.specs.declared.outcome.MachineFault.{MachineFault}
-use Rattle.rv_machine.specs.declared.outcome.MachineFault.TheVariants.{NotYet}
-use Rattle.rv_machine.specs.Calls.{effect_of}
+use Rattle.rv_machine.specs.declared.seen.Step.{Step}
+use Rattle.rv_machine.specs.State.{State, register_of, with_register}
+use Rattle.rv_machine.specs.Effect.{Effect}
+use Rattle.rv_machine.specs.Calls.{read_call, write_call, effect_of}
 use Rattle.rv_machine.specs.Step.{StepOutcome, Went, EndedWith, settled}
+use Rattle.rv_machine.specs.Laws.{IsFrontOf}
 use Rattle.rv_machine.specs.Held.{Held, Outside, program_in, state_of}
+use Rattle.rv_machine.specs.Ports.{Told, Passed, HasPassed}
+use Rattle.rv_machine.specs.Outcomes.{items_in, TookFront}
 
--- what an instruction makes of the state of a machine and the outside
+-- what comes of an effect at each outside
+abbrev pub made_of : Effect → Held → Outside → StepOutcome
+made_of effect held outside = settled (state_of held outside) effect
+
+-- the same of an instruction
 abbrev pub made_by : Instr → Held → Outside → StepOutcome
-made_by instr held outside = settled (state_of held outside) (effect_of held.has_note instr held.pc held.registers held.memory)
+made_by instr held = made_of (effect_of held.has_note instr held.pc held.registers (memory_of held.blocks)) held
 
--- the step went on
-pub record GoesOn (unbuilt : Bool) (outcome : StepOutcome) (before : Held) (outside : Outside) (now : Held) : Type 0 where
-  pub built : unbuilt ≡ false
-  pub step : (items : List Item) × (outcome ≡ Went (state_of now outside) items)
+-- the buffer of a call
+abbrev pub buffer_in : Held → List ℕ
+buffer_in held = span (register_of held.registers 11) (register_of held.registers 12)
+
+-- the effects of the calls that move bytes
+abbrev pub read_in : Held → Effect
+read_in held = read_call (register_of held.registers 10) (buffer_in held) (memory_of held.blocks)
+
+abbrev pub write_in : Held → Effect
+write_in held = write_call held.has_note (register_of held.registers 10) (register_of held.registers 12) (buffer_in held) (memory_of held.blocks)
+
+-- what a machine keeps through each step
+pub record Stays (before now : Held) : Type 0 where
   pub program : program_in now ≡ program_in before
+  pub kept : now.kept ≡ before.kept
 
--- the step ended
-pub record Stops (unbuilt : Bool) (outcome : StepOutcome) (ending : Ending) (before now : Held) : Type 0 where
-  pub built : unbuilt ≡ false
-  pub step : (items : List Item) × (outcome ≡ EndedWith ending items)
-  pub same : now ≡ record before { kept = Some (Ok ending) }
+-- An instruction was carried out, without the ports: it went on with this access, or is to end the run.
+pub record WentAlone (outcome : Outside → StepOutcome) (before : Held) (access : Option Item) (now : Held) : Type 0 where
+  pub step : (outside : Outside) → outcome outside ≡ Went (state_of now outside) (option_to_list access)
+  pub stays : Stays before now
 
--- the step isn't built
-pub record GivesUp (unbuilt : Bool) (fault : MachineFault) (before now : Held) : Type 0 where
-  pub not_built : unbuilt ≡ true
-  pub answer : fault ≡ NotYet
-  pub same : now ≡ record before { kept = Some (Err NotYet) }
+pub record EndsAlone (outcome : Outside → StepOutcome) (before : Held) (ending : Ending) (now : Held) : Type 0 where
+  pub step : (outside : Outside) → outcome outside ≡ EndedWith ending []
+  pub same : now ≡ before
 
--- a step of a machine that kept no answer: whether it is unbuilt, what comes of it, and what the machine keeps then
-abbrev pub Steps : Option (Result Ending MachineFault) → (unbuilt : Bool) → StepOutcome → (before : Held) → Outside → (now : Held) → Type 0
-Steps None unbuilt outcome before outside now = GoesOn unbuilt outcome before outside now
-Steps (Some (Ok ending)) unbuilt outcome before outside now = Stops unbuilt outcome ending before now
-Steps (Some (Err fault)) unbuilt outcome before outside now = GivesUp unbuilt fault before now
+abbrev pub CarriesOut : (outcome : Outside → StepOutcome) → (before : Held) → Result (Option Item) Ending → (now : Held) → Type 0
+CarriesOut outcome before (Ok access) now = WentAlone outcome before access now
+CarriesOut outcome before (Err ending) now = EndsAlone outcome before ending now
+
+-- the outputs before these bytes passed and after
+pub record Follows (before next : Outside) (passed : Passed) : Type 0 where
+  pub out : next.out ≡ before.out ++ passed.out
+  pub err : next.err ≡ before.err ++ passed.err
+  pub events : next.events ≡ before.events ++ passed.events
+
+-- these bytes had been given on the way to a state
+pub record GivenBefore (before : Outside) (passed : Passed) (next : State) : Type 0 where
+  pub out : IsFrontOf (before.out ++ passed.out) next.out
+  pub err : IsFrontOf (before.err ++ passed.err) next.err
+  pub events : IsFrontOf (before.events ++ passed.events) next.events
+
+-- the same with the ports: it went on
+pub record WentOn (outcome : Outside → StepOutcome) (before : Held) (told : Told) (items : List Item) (now : Held) (told_now : Told) : Type 0 where
+  pub passed : Passed
+  pub ports : HasPassed told told_now passed
+  pub step :
+      (outside : Outside) → told.input ≡ Some outside.input
+      → (next : Outside) × Follows outside next passed × (told_now.input ≡ Some next.input) × (outcome outside ≡ Went (state_of now next) items)
+  pub stays : Stays before now
+
+-- it is to end the run
+pub record Stops (outcome : Outside → StepOutcome) (before : Held) (told : Told) (ending : Ending) (items : List Item) (now : Held) (told_now : Told) : Type 0 where
+  pub step : (outside : Outside) → outcome outside ≡ EndedWith ending items
+  pub same : now ≡ before
+  pub ports : told_now ≡ told
+
+-- a port failed on the way to the next state
+pub record Breaks (outcome : Outside → StepOutcome) (before : Held) (told : Told) (now : Held) (told_now : Told) : Type 0 where
+  pub passed : Passed
+  pub ports : HasPassed told told_now passed
+  pub step :
+      (outside : Outside) → told.input ≡ Some outside.input
+      → (next : State) × (items : List Item) × (outcome outside ≡ Went next items) × GivenBefore outside passed next
+  pub stays : Stays before now
+
+-- what an instruction does
+abbrev pub Acts : (outcome : Outside → StepOutcome) → (before : Held) → Told → Result (Result (Option Item) Ending) MachineFault → (now : Held) → Told → Type 0
+Acts outcome before told (Ok (Ok access)) now told_now = WentOn outcome before told (option_to_list access) now told_now
+Acts outcome before told (Ok (Err ending)) now told_now = Stops outcome before told ending [] now told_now
+Acts outcome before told (Err fault) now told_now = Breaks outcome before told now told_now
+
+-- what a step answers whose instruction did this
+abbrev pub step_with : (pc : ℕ) → Result (Result (Option Item) Ending) MachineFault → Result Step MachineFault
+step_with pc (Ok (Ok access)) = Ok (Step.Went (record { fetch = Some pc; access = access }))
+step_with pc (Ok (Err ending)) = Ok (Step.Ended ending (record { fetch = Some pc; access = None }))
+step_with pc (Err fault) = Err fault
+
+-- what a step does
+abbrev pub Advances : (outcome : Outside → StepOutcome) → (before : Held) → Told → Result Step MachineFault → (now : Held) → Told → Type 0
+Advances outcome before told (Ok (Step.Went seen)) now told_now = WentOn outcome before told (items_in seen) now told_now
+Advances outcome before told (Ok (Step.Ended ending seen)) now told_now = Stops outcome before told ending (items_in seen) now told_now
+Advances outcome before told (Err fault) now told_now = Breaks outcome before told now told_now
+
+-- the machine with an answer in x10, at the next word
+abbrev pub with_answer : Held → ℕ → Held
+with_answer held answer = record held { pc = wrap (held.pc + 4); registers = with_register held.registers 10 answer }
+
+-- the bytes of the buffer may be given as events
+abbrev pub may_give_events : Held → Bool
+may_give_events held =
+    held.has_note && nat_le 1 (register_of held.registers 12) && is_none (first_hole (memory_of held.blocks) (buffer_in held))
+    && list_all (λ address. nat_le tracer_start address) (buffer_in held)
+
+-- The bytes of the buffer were given to a sink and their number was answered, or where that isn't allowed, a refusal was.
+abbrev pub Gave : (allowed : Bool) → (refusal : ℕ) → (before : Held) → (told : Option (List ℕ)) → Result Unit Failed → (now : Held) → (told_now : Option (List ℕ)) → Type 0
+Gave false refusal before told (Ok done) now told_now = (now ≡ with_answer before refusal) × (told_now ≡ told)
+Gave false refusal before told (Err fault) now told_now = ⊥
+Gave true refusal before told (Ok done) now told_now =
+    (now ≡ with_answer before (register_of before.registers 12)) × Appends told told_now (bytes_at (memory_of before.blocks) (buffer_in before))
+Gave true refusal before told (Err fault) now told_now =
+    (now ≡ before) × AppendsFront told told_now (bytes_at (memory_of before.blocks) (buffer_in before))
+
+-- the state after an outcome; an ending leaves the state as it was
+abbrev pub state_after : State → StepOutcome → State
+state_after s (Went next items) = next
+state_after s (EndedWith ending items) = s
+
+abbrev pub items_in_outcome : StepOutcome → List Item
+items_in_outcome (Went next items) = items
+items_in_outcome (EndedWith ending items) = items
+
+-- a step was made, and its items were taken
+pub record TurnedOn (outcome : Outside → StepOutcome) (before : Held) (told : Told) (took : List Item → Type 0) (now : Held) (told_now : Told) : Type 0 where
+  pub items : List Item
+  pub went : WentOn outcome before told items now told_now
+  pub taken : took items
+
+pub record TurnedOff (outcome : Outside → StepOutcome) (before : Held) (told : Told) (took : List Item → Type 0) (ending : Ending) (now : Held) (told_now : Told) : Type 0 where
+  pub items : List Item
+  pub stops : Stops outcome before told ending items now told_now
+  pub taken : took items
+
+-- a step failed on the way to its state, or its items couldn't all be taken
+pub record BreaksOff (outcome : Outside → StepOutcome) (before : Held) (told : Told) (took : List Item → Type 0) (now : Held) (told_now : Told) : Type 0 where
+  pub passed : Passed
+  pub ports : HasPassed told told_now passed
+  pub step :
+      (outside : Outside) → told.input ≡ Some outside.input
+      → GivenBefore outside passed (state_after (state_of before outside) (outcome outside)) × TookFront took (items_in_outcome (outcome outside))
+  pub stays : Stays before now
+
+-- what a turn does: a step, and giving its items to a taker
+abbrev pub Turns : (outcome : Outside → StepOutcome) → (before : Held) → Told → (took : List Item → Type 0) → Result (Option Ending) MachineFault → (now : Held) → Told → Type 0
+Turns outcome before told took (Ok None) now told_now = TurnedOn outcome before told took now told_now
+Turns outcome before told took (Ok (Some ending)) now told_now = TurnedOff outcome before told took ending now told_now
+Turns outcome before told took (Err fault) now told_now = BreaksOff outcome before told took now told_now
+
+-- Bytes of the input were put into a buffer: as many as it has room for, or all that were left.
+pub record Receives (told told_now : Option (List ℕ)) (before now : List Cell) (address count got : ℕ) : Type 0 where
+  pub bytes : List ℕ
+  pub number : length bytes ≡ got
+  pub within : got ≤ count
+  pub taken : Consumes told told_now bytes
+  pub put : now ≡ written before (span address count) bytes
+  pub end : got < count → IsAtEnd told_now

@@ -1,16 +1,14 @@
 -- What a machine holds, and what it and the outside have to do with the state of a run.
-use Rattle.std.specs.Prelude.{ℕ, Bool, List, Option, None, Result, Ok, Err, is_some}
+use Rattle.std.specs.Prelude.{ℕ, Bool, List, [], Option, None, Result, is_some}
 use Rattle.rv_code.specs.declared.ending.Ending.{Ending}
 use Rattle.rv_code.specs.declared.image.Image.{Image}
 use Rattle.rv_code.specs.declared.extent.Extent.{Extent}
 use Rattle.rv_code.specs.Code.{extents_of}
-use Rattle.rv_machine.specs.declared.outcome.Outcome.{Outcome}
+use Rattle.rv_memory.specs.Blocks.{Block, memory_of, blocks_of}
 use Rattle.rv_machine.specs.declared.outcome.MachineFault.{MachineFault}
-use Rattle.rv_memory.specs.Memory.{Cell}
 use Rattle.rv_machine.specs.State.{State}
 use Rattle.rv_machine.specs.Step.{Program}
 use Rattle.rv_machine.specs.Start.{first_registers}
-use Rattle.rv_memory.specs.Blocks.{memory_of, blocks_of}
 
 -- a machine: where its code stands, and of the state all but what the outside has
 pub record Held : Type 0 where
@@ -18,7 +16,8 @@ pub record Held : Type 0 where
   pub has_note : Bool
   pub pc : ℕ
   pub registers : List ℕ
-  pub memory : List Cell
+  -- the mapped bytes
+  pub blocks : List Block
   -- the ending or the fault that each later call answers, none while the machine can go on
   pub kept : Option (Result Ending MachineFault)
 
@@ -29,6 +28,13 @@ pub record Outside : Type 0 where
   pub err : List ℕ
   pub events : List ℕ
 
+-- this input, and nothing given yet
+abbrev pub fresh : List ℕ → Outside
+fresh input = record { input = input; out = []; err = []; events = [] }
+
+abbrev pub outside_of : State → Outside
+outside_of s = record { input = s.input; out = s.out; err = s.err; events = s.events }
+
 abbrev pub program_in : Held → Program
 program_in held = record { code = held.code; has_note = held.has_note }
 
@@ -38,7 +44,7 @@ state_of held outside =
     record {
       pc = held.pc;
       registers = held.registers;
-      memory = held.memory;
+      memory = memory_of held.blocks;
       input = outside.input;
       out = outside.out;
       err = outside.err;
@@ -53,11 +59,6 @@ loaded_of image =
       has_note = is_some image.note;
       pc = image.entry;
       registers = first_registers;
-      memory = memory_of (blocks_of image.regions);
+      blocks = blocks_of image.regions;
       kept = None;
     }
-
--- the answer that a machine keeps, as an outcome
-abbrev pub kept_answer : Result Ending MachineFault → Result Outcome MachineFault
-kept_answer (Ok ending) = Ok (Outcome.Ended ending)
-kept_answer (Err fault) = Err fault

@@ -8,7 +8,7 @@ pub mod Events
 pub mod Dump
 pub mod Clean
 pub mod Held
-pub mod Built
-pub mod Placed
+pub mod Ports
+pub mod Outcomes
 pub mod Advance
 pub mod Laws

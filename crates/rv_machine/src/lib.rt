@@ -4,13 +4,21 @@
 //! event bytes, dumps, and clean and good runs. [`laws`] has what holds of all runs.
 #![tactic(auto)]
 
-mod fetch;
+mod buffers;
+mod code;
+mod dropped;
+mod kept;
 pub mod laws;
 mod loading;
 mod machine;
 mod outcome;
+mod seen;
+mod taking;
 #[cfg(test)]
 mod tests;
+mod untraced;
 
+pub use dropped::Dropped;
 pub use machine::Machine;
 pub use outcome::{MachineFault, Outcome};
+pub use seen::{Seen, Step};

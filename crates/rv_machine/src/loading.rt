@@ -1,25 +1,13 @@
-//! What a machine takes from an image: its bytes, where its code stands, and the registers at the start.
-ghost use Rattle.std.specs.Prelude.{◌≡◌, ◌+◌, ◌^◌, ◌<◌, ◌++◌, length, replicate, IfOk, All};
+//! What a machine takes from an image beside its memory: where its code stands, and the registers at the start.
+ghost use Rattle.std.specs.Prelude.{◌≡◌, ◌^◌, ◌<◌, length, IfOk, All};
 ghost use Rattle.rv_code.specs.Code.{extents_of};
 ghost use Rattle.rv_machine.specs.Start.{first_registers};
 
-use rv_code::{Extent, Range, Region};
+use rv_code::{Extent, Range};
 use std::alloc::{AllocError, Global};
 
 /// Near the end of the stack, a multiple of 16.
 const FIRST_STACK_POINTER: u32 = 0x7fff_ffc0;
-
-/// A region's bytes and then its zeros.
-pub fn mapped_bytes(alloc: Global, region: &Region) -> Result<Vec<u8>, AllocError>
-    ensures { IfOk result (λ bytes. bytes.items ≡ region.now.bytes ++ replicate region.now.zeros 0) }
-{
-    let front = region.bytes.as_slice();
-    let length = front.len() + region.zeros as usize;
-    let mut bytes = Vec::with_capacity(alloc, length)?;
-    bytes.extend_from_slice(front)?;
-    bytes.resize(length, 0)?;
-    Ok(bytes)
-}
 
 /// Where the words of the ranges stand.
 pub fn code_extents(alloc: Global, ranges: &[Range]) -> Result<Vec<Extent>, AllocError>

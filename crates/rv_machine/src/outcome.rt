@@ -18,8 +18,6 @@ pub enum MachineFault {
     OutFault,
     /// The second output failed.
     ErrFault,
-    /// The sink of the event bytes failed.
+    /// The sink of the event bytes failed, or the taker of the items.
     EventFault,
-    /// The run came to a word or a call that isn't built yet.
-    NotYet,
 }

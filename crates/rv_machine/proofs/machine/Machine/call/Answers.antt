@@ -1,15 +1,24 @@
 use Rattle.std.proofs.Common.{◌≢◌, arith}
-use Rattle.rv_machine.proofs.Steps.{exit_call, other_call}
+use Rattle.rv_machine.proofs.Called.{answered, ended, is_read, is_write, is_exit, is_none_such, acts_as}
 use Rattle.rv_machine.proofs.machine.Machine.call.Goals as goal
-use Rattle.rv_machine.proofs.machine.Machine.call.Goals.{in_default-via-then-this-lt63, in_default-via-else-this-lt63+else-this-lt65}
 
-pub returns-in-93 : goal.returns-in-93
-returns-in-93 c = λ outside.
-    exit_call c.args.self.now c.keep.new.self outside c.register.result c.register-in-93.result c.in-93.is c.register.ensures c.register-in-93.ensures c.keep.ensures
+pub returns-in-63-clause-acts : goal.returns-in-63-clause-acts
+returns-in-63-clause-acts g c =
+    acts_as c.args.self.now c.call_read.new.self _ _ _ _ c.call_read.result (is_read c.args.self.now c.register.result c.register.ensures c.in-63.is)
+    (c.call_read.ensures.acts (g.O.Sink.told c.args.out.now) (g.P.Sink.told c.args.err.now) (g.Q.Sink.told c.args.events.now))
 
-pub returns-in_default : goal.returns-in_default
-returns-in_default c = λ outside.
-    let no_read : c.register.result ≢ 63 = elim c.in_default.branch [ in_default-via-then-this-lt63 w ↦ omega arith | in_default-via-else-this-lt63+else-this-lt65 w ↦ omega arith ] in
-    let no_write : c.register.result ≢ 64 = elim c.in_default.branch [ in_default-via-then-this-lt63 w ↦ omega arith | in_default-via-else-this-lt63+else-this-lt65 w ↦ omega arith ] in
-    let no_exit : c.register.result ≢ 93 = elim c.in_default.branch [ in_default-via-then-this-lt63 w ↦ omega arith | in_default-via-else-this-lt63+else-this-lt65 w ↦ omega arith ] in
-    other_call c.args.self.now c.set_and_go_on.new.self outside c.register.result no_read no_write no_exit c.register.ensures c.requires c.set_and_go_on.ensures
+pub returns-in-64-clause-acts : goal.returns-in-64-clause-acts
+returns-in-64-clause-acts g c =
+    acts_as c.args.self.now c.call_write.new.self _ _ _ _ c.call_write.result (is_write c.args.self.now c.register.result c.register.ensures c.in-64.is)
+    (c.call_write.ensures.acts (g.I.Source.told c.args.input.now))
+
+pub returns-in-93-clause-acts : goal.returns-in-93-clause-acts
+returns-in-93-clause-acts g c =
+    ended c.args.self.now _ _ _ (is_exit c.args.self.now c.register.result c.register.ensures c.register-in-93.result c.in-93.is c.register-in-93.ensures)
+
+pub returns-in_default-clause-acts : goal.returns-in_default-clause-acts
+returns-in_default-clause-acts g c =
+    let no_read : c.register.result ≢ 63 = omega arith in
+    let no_write : c.register.result ≢ 64 = omega arith in
+    let no_exit : c.register.result ≢ 93 = omega arith in
+    answered c.args.self.now c.set_and_go_on.new.self _ _ _ (is_none_such c.args.self.now c.register.result c.register.ensures no_read no_write no_exit) c.set_and_go_on.ensures

@@ -1,0 +1,118 @@
+-- From what an instruction does to what a step does.
+use Rattle.std.proofs.Common.{◌≡◌, ℕ, List, [], ◌∷◌, Option, None, Some, Result, Ok, Err, sym, ap, ◌∙◌, subst}
+use Rattle.std.specs.Io.KnownBytes.{append_known}
+use Rattle.ae_nums.specs.declared.item.Item.{Item}
+use Rattle.ae_nums.specs.declared.item.Item.TheVariants.{Fetch}
+use Rattle.rv_code.specs.declared.ending.Ending.{Ending}
+use Rattle.rv_code.specs.declared.ending.Ending.TheVariants.{FetchFault}
+use Rattle.rv_code.specs.declared.instr.Instr.{Instr}
+use Rattle.rv_code.specs.Table.{meaning_of}
+use Rattle.rv_machine.specs.declared.outcome.MachineFault.{MachineFault}
+use Rattle.rv_machine.specs.declared.seen.Step.{Step}
+use Rattle.rv_machine.specs.Step.{StepOutcome, EndedWith, after_fetch, carried_out, fetched, step_of}
+use Rattle.rv_machine.specs.Held.{Held, Outside, fresh, program_in, state_of}
+use Rattle.rv_machine.specs.Outcomes.{Steps}
+use Rattle.rv_machine.specs.Ports.{Told, HasPassed, Passes}
+use Rattle.rv_machine.specs.Advance.{Stops, Acts, Advances, made_by, step_with}
+use Rattle.rv_machine.proofs.Passing.{nothing, nothing_passed, appends_front}
+
+-- a step at which a word was fetched
+pub step_after : (held : Held) (outside : Outside) (word : ℕ) → fetched (program_in held) (state_of held outside) ≡ Some word
+    → step_of (program_in held) (state_of held outside) ≡ after_fetch held.pc (made_by (meaning_of word) held outside)
+unfolding step_of
+step_after held outside word found = ap (carried_out held.has_note (state_of held outside)) found
+
+pub advances : (outcome step : Outside → StepOutcome) (pc : ℕ) → ((outside : Outside) → step outside ≡ after_fetch pc (outcome outside))
+    → (before : Held) (told : Told) (result : Result (Result (Option Item) Ending) MachineFault) (now : Held) (told_now : Told)
+    → Acts outcome before told result now told_now → Advances step before told (step_with pc result) now told_now
+advances outcome step pc is before told (Ok (Ok access)) now told_now acts =
+    record {
+      passed = acts.passed;
+      ports = acts.ports;
+      step = λ outside tells.
+          let went = acts.step outside tells in
+          (went.0, went.1, went.2, is outside ∙ ap (after_fetch pc) went.3);
+      stays = acts.stays;
+    }
+advances outcome step pc is before told (Ok (Err ending)) now told_now acts =
+    record { step = λ outside. is outside ∙ ap (after_fetch pc) (acts.step outside); same = acts.same; ports = acts.ports }
+advances outcome step pc is before told (Err fault) now told_now acts =
+    record {
+      passed = acts.passed;
+      ports = acts.ports;
+      step = λ outside tells.
+          let went = acts.step outside tells in
+          (went.0, Fetch pc ∷ went.1, is outside ∙ ap (after_fetch pc) went.2, went.3);
+      stays = acts.stays;
+    }
+
+pub no_word : (held now : Held) (told told_now : Told) (pc : ℕ) → pc ≡ held.pc
+    → ((outside : Outside) → fetched (program_in held) (state_of held outside) ≡ None) → now ≡ held → told_now ≡ told
+    → Stops (λ outside. step_of (program_in held) (state_of held outside)) held told (FetchFault pc) [] now told_now
+unfolding step_of
+no_word held now told told_now pc here none same told_same =
+    record {
+      step = λ outside. ap (carried_out held.has_note (state_of held outside)) (none outside) ∙ ap (λ p. EndedWith (FetchFault p) []) (sym here);
+      same = same;
+      ports = told_same;
+    }
+
+-- a word was fetched, and its instruction carried out
+pub word_advances : (held fetched_by now : Held) (told told_now : Told) (pc word : ℕ) (instr : Instr)
+    (acted : Result (Result (Option Item) Ending) MachineFault) (result : Result Step MachineFault)
+    → ((outside : Outside) → fetched (program_in held) (state_of held outside) ≡ Some word) → fetched_by ≡ held → pc ≡ held.pc → instr ≡ meaning_of word
+    → Acts (made_by instr fetched_by) fetched_by told acted now told_now → result ≡ step_with pc acted
+    → Advances (λ outside. step_of (program_in held) (state_of held outside)) held told result now told_now
+word_advances held fetched_by now told told_now pc word instr acted result found same here means acts is =
+    let at_held : Acts (made_by (meaning_of word) held) held told acted now told_now =
+    subst (λ i. Acts (made_by i held) held told acted now told_now) means (subst (λ (h : Held). Acts (made_by instr h) h told acted now told_now) same acts) in
+    subst (λ r. Advances (λ outside. step_of (program_in held) (state_of held outside)) held told r now told_now) (sym is)
+    (advances (made_by (meaning_of word) held) (λ outside. step_of (program_in held) (state_of held outside)) pc
+    (λ outside. step_after held outside word (found outside) ∙ ap (λ p. after_fetch p (made_by (meaning_of word) held outside)) (sym here)) held told acted now told_now at_held)
+
+-- what a step answers and leaves; what the machine keeps is no part of the state
+pub stepped : (before after now : Held) (told told_now : Told) (result : Result Step MachineFault) (bytes : List ℕ) → told.input ≡ Some bytes
+    → Advances (λ outside. step_of (program_in before) (state_of before outside)) before told result after told_now
+    → ((outside : Outside) → state_of now outside ≡ state_of after outside)
+    → Steps bytes before told result now told_now
+stepped before after now told told_now (Ok (Step.Went seen)) bytes tells went same =
+    let way = went.step (fresh bytes) tells in (
+      state_of after way.0,
+      way.3,
+      record {
+        state = same way.0;
+        input = way.2;
+        out = went.ports.out ∙ ap (λ xs. append_known told.out xs) (sym way.1.out);
+        err = went.ports.err ∙ ap (λ xs. append_known told.err xs) (sym way.1.err);
+        events = went.ports.events ∙ ap (λ xs. append_known told.events xs) (sym way.1.events);
+      },
+    )
+stepped before after now told told_now (Ok (Step.Ended ending seen)) bytes tells stops same = (
+  stops.step (fresh bytes),
+  record {
+    state = same (fresh bytes) ∙ ap (λ (h : Held). state_of h (fresh bytes)) stops.same;
+    input = ap (λ (t : Told). t.input) stops.ports ∙ tells;
+    out = ap (λ (t : Told). t.out) stops.ports ∙ (nothing_passed told).out;
+    err = ap (λ (t : Told). t.err) stops.ports ∙ (nothing_passed told).err;
+    events = ap (λ (t : Told). t.events) stops.ports ∙ (nothing_passed told).events;
+  },
+)
+stepped before after now told told_now (Err fault) bytes tells broke same =
+    let way = broke.step (fresh bytes) tells in (
+      way.0,
+      way.1,
+      way.2,
+      record {
+        taken = (broke.passed.taken, broke.ports.input);
+        out = appends_front told.out told_now.out broke.passed.out way.0.out broke.ports.out way.3.out;
+        err = appends_front told.err told_now.err broke.passed.err way.0.err broke.ports.err way.3.err;
+        events = appends_front told.events told_now.events broke.passed.events way.0.events broke.ports.events way.3.events;
+      },
+    )
+
+-- whatever a step answers, some bytes passed
+pub advances_pass : (outcome : Outside → StepOutcome) (before : Held) (told : Told) (result : Result Step MachineFault) (now : Held) (told_now : Told)
+    → Advances outcome before told result now told_now → Passes told told_now
+advances_pass outcome before told (Ok (Step.Went seen)) now told_now went = (went.passed, went.ports)
+advances_pass outcome before told (Ok (Step.Ended ending seen)) now told_now stops = (nothing, subst (λ (t : Told). HasPassed told t nothing) (sym stops.ports) (nothing_passed told))
+advances_pass outcome before told (Err fault) now told_now broke = (broke.passed, broke.ports)
