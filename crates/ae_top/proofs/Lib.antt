@@ -1,7 +1,13 @@
 pub mod Appended
-pub mod Behind
 pub mod Fronts
 pub mod Pieces
 pub mod RowImage
 pub mod Spelling
+pub mod TooLong
 pub mod Ran
+pub mod Kept
+pub mod Traced
+pub mod KeptPlain
+pub mod Named
+pub mod Behind
+pub mod KeptTop

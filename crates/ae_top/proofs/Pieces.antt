@@ -1,6 +1,6 @@
 -- Bytes given to a sink piece by piece.
 use Rattle.std.proofs.Common.{◌≡◌, ℕ, ◌+◌, List, ◌++◌, length, take, Option, None, Some, Result, Ok, Err, refl, sym, ap, ◌∙◌, arith, append_assoc, length-append}
-use Rattle.std.proofs.Math.Seq.{take-append-add}
+use Rattle.std.proofs.Math.Seq.{take-append-add, take-length}
 use Rattle.std.proofs.lemmas.List.{take-append-le}
 use Rattle.std.specs.Prelude.{OnErr}
 use Rattle.std.specs.Io.KnownBytes.{append_known}
@@ -28,6 +28,10 @@ front_behind before middle now one two first front = (
 pub front_of_more : (before now : Option (List ℕ)) (one two : List ℕ) → AppendsFront before now one → AppendsFront before now (one ++ two)
 front_of_more before now one two front =
     (front.0, omega (arith, front.1, length-append one two), front.2 ∙ ap (append_known before) (sym (take-append-le front.0 one two front.1)))
+
+-- a whole piece is a front of it
+pub whole_front : (before now : Option (List ℕ)) (bytes : List ℕ) → Appends before now bytes → AppendsFront before now bytes
+whole_front before now bytes all = (length bytes, omega arith, all ∙ ap (append_known before) (sym (take-length bytes)))
 
 -- what holds anyway holds after an error
 pub on_err_always : {T : Type 0} (P : Type 0) (result : Result T Failed) → P → OnErr result P

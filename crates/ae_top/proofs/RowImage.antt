@@ -6,7 +6,6 @@ use Rattle.std.proofs.lemmas.List.{take_all, drop_at}
 use Rattle.rv_code.specs.declared.image.Region.{Region}
 use Rattle.rv_code.specs.declared.image.Range.{Range}
 use Rattle.rv_code.specs.Image.{IsImage, IsRegion, IsRange, HoldsWords}
-use Rattle.rv_machine.specs.Built.{IsLoadable}
 use Rattle.ae_top.specs.RowFile.{IsRowCode, row_front, code_bytes, row_image}
 use Rattle.ae_top.proofs.Spelling.{length-row_front, length-code_bytes, bytes-row_front, bytes-code_bytes, bytes-append}
 
@@ -75,6 +74,3 @@ row_image_is_image code h =
         words = omega (arith, h.few);
       };
     }
-
-pub row_image_is_loadable : (code : List ℕ) → IsLoadable (row_image code)
-row_image_is_loadable code = record { one = (the_region code, refl); no_note = refl }

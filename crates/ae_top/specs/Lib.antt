@@ -1,7 +1,11 @@
 pub mod RowFile
 pub mod Reading
-pub mod Command
+pub mod Task
 pub mod Status
-pub mod Lines
+pub mod EndingLines
+pub mod StatusLines
+pub mod World
+pub mod Running
 pub mod Run
+pub mod Plain
 pub mod Top

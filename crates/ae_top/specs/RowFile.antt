@@ -1,18 +1,36 @@
 -- The one form of executable that is run today: code from 0x10074 on, in a segment that maps the file's headers and the
 -- code, beside an empty segment and a section that names the code. The fields are those of ELF32 (System V ABI).
-use Rattle.std.specs.Prelude.{◌≡◌, ℕ, ◌+◌, ◌*◌, ◌≤◌, false, List, [], ◌∷◌, ◌++◌, length, replicate, None, IsTrue}
+use Rattle.std.specs.Prelude.{◌≡◌, ℕ, ◌+◌, ◌*◌, ◌≤◌, Bool, true, false, List, [], ◌∷◌, ◌++◌, length, replicate, None, IsTrue}
 use Rattle.std.specs.List.{AllByRecursion, flat_map}
 use Rattle.rv_code.specs.declared.image.Image.{Image}
+use Rattle.rv_code.specs.declared.instr.Instr.{Instr}
+use Rattle.rv_code.specs.declared.instr.Instr.TheVariants.{Lui, Jal, Branch, Load, Store, OpImm, Op, Ecall}
+use Rattle.rv_code.specs.declared.instr.BranchOp.TheVariants.{Beq}
+use Rattle.rv_code.specs.declared.instr.ImmOp.TheVariants.{Addi}
+use Rattle.rv_code.specs.declared.instr.LoadOp.TheVariants.{Lw}
+use Rattle.rv_code.specs.declared.instr.RegOp.TheVariants.{Add}
+use Rattle.rv_code.specs.declared.instr.StoreOp.TheVariants.{Sw}
 use Rattle.rv_code.specs.Numbers.{IsWord, bytes_of}
 use Rattle.rv_code.specs.Table.{meaning_of}
-use Rattle.rv_machine.specs.Built.{is_built}
 
--- the code is 1 to 32,768 words of the forms that are built
+-- the forms of instruction that its code may have
+abbrev pub is_row_form : Instr → Bool
+is_row_form (OpImm Addi rd rs1 imm) = true
+is_row_form (Op Add rd rs1 rs2) = true
+is_row_form (Lui rd imm) = true
+is_row_form (Load Lw rd rs1 imm) = true
+is_row_form (Store Sw rs1 rs2 imm) = true
+is_row_form (Branch Beq rs1 rs2 imm) = true
+is_row_form (Jal rd imm) = true
+is_row_form Ecall = true
+is_row_form _ = false
+
+-- the code is 1 to 32,768 words of these forms
 pub record IsRowCode (code : List ℕ) : Type 0 where
   pub some : 1 ≤ length code
   pub few : length code ≤ 32768
   pub words : AllByRecursion IsWord code
-  pub built : AllByRecursion (λ word. IsTrue (is_built (meaning_of word))) code
+  pub forms : AllByRecursion (λ word. IsTrue (is_row_form (meaning_of word))) code
 
 -- a number of two bytes, and one of four
 abbrev pub half : ℕ → List ℕ

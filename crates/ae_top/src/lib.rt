@@ -2,15 +2,17 @@
 //! handed, and answers with a status.
 #![tactic(auto)]
 
-mod command;
-mod dropped;
-mod lines;
+mod ending_lines;
+mod finishing;
+mod plain;
+mod program;
 mod reading;
 mod row_bytes;
 mod row_file;
 mod run;
 mod status;
-mod telling;
+mod status_lines;
+mod task;
 #[cfg(test)]
 mod tests;
 mod top;

@@ -4,14 +4,15 @@ ghost use Rattle.std.specs.List.{AllByRecursion};
 ghost use Rattle.rv_code.specs.Image.{IsImage};
 ghost use Rattle.rv_code.specs.Numbers.{IsWord};
 ghost use Rattle.rv_code.specs.Table.{meaning_of};
-ghost use Rattle.rv_machine.specs.Built.{is_built, IsLoadable};
-ghost use Rattle.ae_top.specs.RowFile.{IsRowCode, IsFileOf, IsNoRowFile, code_bytes, row_image};
+ghost use Rattle.ae_top.specs.RowFile.{is_row_form, IsRowCode, IsFileOf, IsNoRowFile, code_bytes, row_image};
 
 use crate::row_bytes::{
     CODE_START, HEADERS_SIZE, SECTIONS_SIZE, SEGMENT_START, file_of_code, push_front, push_words,
 };
 use ae_nums::take_u32;
-use rv_code::{Image, ImmOp, Instr, ListOf, Range, Region, decode};
+use rv_code::{
+    BranchOp, Image, ImmOp, Instr, ListOf, LoadOp, Range, RegOp, Region, StoreOp, decode,
+};
 use std::alloc::{AllocError, Global};
 
 /// The size of the file with one code word.
@@ -20,25 +21,36 @@ const LEAST_SIZE: usize = 200;
 /// The size of the file with 32,768 code words.
 const GREATEST_SIZE: usize = 131_268;
 
-/// The machine carries out this form of instruction.
-fn has_built_form(instr: &Instr) -> bool
-    ensures { result ≡ is_built instr.now }
+/// Code of the one form may have this instruction.
+fn has_row_form(instr: &Instr) -> bool
+    ensures { result ≡ is_row_form instr.now }
 {
     matches!(
         instr,
         Instr::OpImm {
             op: ImmOp::Addi,
             ..
-        } | Instr::Lui { .. }
+        } | Instr::Op { op: RegOp::Add, .. }
+            | Instr::Lui { .. }
+            | Instr::Load { op: LoadOp::Lw, .. }
+            | Instr::Store {
+                op: StoreOp::Sw,
+                ..
+            }
+            | Instr::Branch {
+                op: BranchOp::Beq,
+                ..
+            }
+            | Instr::Jal { .. }
             | Instr::Ecall
     )
 }
 
-/// The machine carries out the form of each word.
-fn have_built_forms(code: &[u32]) -> bool
-    ensures { IsTrue result ↔ AllByRecursion (λ word. IsTrue (is_built (meaning_of word))) code.now }
+/// Code of the one form may have each word.
+fn have_row_forms(code: &[u32]) -> bool
+    ensures { IsTrue result ↔ AllByRecursion (λ word. IsTrue (is_row_form (meaning_of word))) code.now }
 {
-    code.iter().all(|word| has_built_form(&decode(*word)))
+    code.iter().all(|word| has_row_form(&decode(*word)))
 }
 
 /// The words whose bytes these are, each lowest byte first.
@@ -56,8 +68,8 @@ fn words_of(alloc: Global, bytes: &[u8]) -> Result<Vec<u32>, AllocError>
     Ok(words)
 }
 
-/// The code of a file that has the one form, whose code words are 1 to 32,768 and all of forms that the machine carries
-/// out. It is `None` at every other file.
+/// The code of a file that has the one form, whose code words are 1 to 32,768 and all of its eight forms. It is
+/// `None` at every other file.
 pub fn code_of_file(alloc: Global, bytes: &[u8]) -> Result<Option<Vec<u32>>, AllocError>
     ensures { IfOk result (λ found. MatchOption found (IsNoRowFile bytes.now) (λ code. IsFileOf bytes.now code.items)) }
 {
@@ -66,7 +78,7 @@ pub fn code_of_file(alloc: Global, bytes: &[u8]) -> Result<Option<Vec<u32>>, All
         return Ok(None);
     }
     let code = words_of(alloc, &bytes[HEADERS_SIZE..size - SECTIONS_SIZE])?;
-    if !have_built_forms(&code) {
+    if !have_row_forms(&code) {
         return Ok(None);
     }
     let file = file_of_code(alloc, &code)?;
@@ -83,7 +95,6 @@ pub fn image_of_code(alloc: Global, code: Vec<u32>) -> Result<Image, AllocError>
     requires { IsRowCode code.items }
     ensures value { IfOk result (λ image. image ≡ row_image code.items) }
     ensures image { IfOk result IsImage }
-    ensures loadable { IfOk result IsLoadable }
 {
     let mut bytes = Vec::with_capacity(alloc, HEADERS_SIZE + 4 * code.len())?;
     push_front(&mut bytes, code.len() as u32)?;

@@ -1,20 +1,30 @@
 ghost use Rattle.std.specs.Prelude.{◌≡◌};
 ghost use Rattle.ae_top.specs.Status.{code_of};
 
+use rv_code::Ending;
+
 /// What came of a command.
 #[derive(Clone, Copy, Debug, PartialEq, Eq)]
 pub enum Status {
-    /// The command did all its work; the run ended with an exit.
+    /// The command did all its work. A run that it made ended with an exit.
     Done,
-    /// The words spell no command.
+    /// The words spell no command that is carried out.
     Usage,
     /// The file that this word names, counted from 0, isn't there.
     Missing { word: u32 },
     /// The store failed.
     StoreFault,
+    /// The input failed.
+    InputFault,
+    /// The output failed.
+    OutFault,
     /// The second output failed.
     ErrFault,
-    /// What the command came to isn't built yet.
+    /// The run made all the steps that it may take, this many, and none ended it.
+    FuelSpent { steps: u64 },
+    /// The run ended otherwise than with an exit.
+    Faulted(Ending),
+    /// The executable isn't of the one form that is run today.
     NotYet,
     /// Memory was wanting.
     Memory,
@@ -30,7 +40,11 @@ impl Status {
             Status::Usage => 2,
             Status::Missing { .. } => 4,
             Status::StoreFault => 8,
+            Status::InputFault => 9,
+            Status::OutFault => 10,
             Status::ErrFault => 10,
+            Status::FuelSpent { .. } => 11,
+            Status::Faulted(_) => 12,
             Status::NotYet => 13,
             Status::Memory => 70,
         }

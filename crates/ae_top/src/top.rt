@@ -1,23 +1,25 @@
 //! The top call.
-ghost use Rattle.std.specs.Prelude.{◌≡◌, ◌≢◌, ◌≤◌, ◌↔◌, ℕ, Option, None};
+ghost use Rattle.std.specs.Prelude.{◌≡◌, ◌≢◌, ◌≤◌, ◌↔◌, None};
 ghost use Rattle.ae_ports.specs.Fault.{HasRisen};
-ghost use Rattle.ae_ports.specs.Files.{SameFiles};
-ghost use Rattle.ae_top.specs.Command.{command_of};
-ghost use Rattle.ae_top.specs.Top.{Promises, Says, Gives, NamesMissing};
+ghost use Rattle.ae_top.specs.Task.{task_in};
+ghost use Rattle.ae_top.specs.Top.{Promises, Keeps};
+ghost use Rattle.ae_top.specs.World.{HasCauses};
 
 use crate::Status;
-use crate::command::{Command, read_words};
+use crate::plain::plain;
 use crate::run::run;
-use crate::telling::tell;
+use crate::status_lines::tell;
+use crate::task::{Task, read_task};
 use ae_ports::{Sink, Source, Store, Word};
 use std::alloc::Global;
 
 /// Carries out the command that the words spell, over the files of the store, the input and the two outputs, and answers
-/// with what came of it. The words are those after the program's name.
+/// with what came of it. The words are those after the program's name. Today `run PROG` and `plain PROG TRACE` are carried
+/// out, each with `--fuel N` or without; all other words are answered with `Usage`.
 ///
-/// Every call returns. The refusals come in this order: the words, a file that isn't there, a fault while it is read, and
-/// then what the command comes to. The line of each status but `Done` goes to the second output; whether it could be
-/// written changes nothing.
+/// Every call returns. The refusals come in this order: the words, a file that isn't there, a fault while it is read, an
+/// executable that isn't of the one form, and then what the run comes to. The line of a status goes to the second output;
+/// whether it could be written changes nothing.
 pub fn ae<S: Store, I: Source, O: Sink, P: Sink>(
     alloc: Global,
     words: &[Word],
@@ -26,30 +28,27 @@ pub fn ae<S: Store, I: Source, O: Sink, P: Sink>(
     out: &mut O,
     err: &mut P,
 ) -> Status
-    ensures usage { (result ≡ Status.Usage) ↔ (command_of words.now ≡ None) }
-    // What the command promises, and the lines on the second output.
-    ensures promise { Promises (command_of words.now) words.now result (S.told store.old) (P.told err.old) (P.told err.new) (P.faults err.old) (P.faults err.new) }
-    ensures missing { NamesMissing (command_of words.now) result }
+    ensures usage { (result ≡ Status.Usage) ↔ (task_in words.now ≡ None) }
+    // What is promised of the command, and the line on the second output.
+    ensures promise { Promises (task_in words.now) words.now result
+        (record { files = S.told store.old; streams = record { input = I.told input.old; out = O.told out.old; err = P.told err.old }; counts = record { store = S.faults store.old; input = I.faults input.old; out = O.faults out.old; err = P.faults err.old } })
+        (record { files = S.told store.new; streams = record { input = I.told input.new; out = O.told out.new; err = P.told err.new }; counts = record { store = S.faults store.new; input = I.faults input.new; out = O.faults out.new; err = P.faults err.new } }) }
 
-    // A fault comes only where that object's count rose in this call, and any other answer only where it didn't; the line
-    // of a status may still fail behind it.
+    // A device's fault comes only where that device's count rose in this call.
     ensures store_fault { result ≡ Status.StoreFault → HasRisen (S.faults store.old) (S.faults store.new) }
-    ensures store_same { result ≢ Status.StoreFault → S.faults store.new ≡ S.faults store.old }
+    ensures input_fault { result ≡ Status.InputFault → HasRisen (I.faults input.old) (I.faults input.new) }
+    ensures out_fault { result ≡ Status.OutFault → HasRisen (O.faults out.old) (O.faults out.new) }
     ensures err_fault { result ≡ Status.ErrFault → HasRisen (P.faults err.old) (P.faults err.new) }
-    ensures err_same { result ≡ Status.Done → P.faults err.new ≡ P.faults err.old }
-    ensures store_later { S.faults store.old ≤ S.faults store.new }
-    ensures err_later { P.faults err.old ≤ P.faults err.new }
 
-    // What stays as before.
-    ensures files { SameFiles (S.told store.old) (S.told store.new) }
+    // What each device was made with and stands on is as before.
     ensures store_rest { S.same_rest store.old store.new }
+    ensures input_rest { I.same_rest input.old input.new }
+    ensures out_rest { O.same_rest out.old out.new }
     ensures err_rest { P.same_rest err.old err.new }
-    ensures input { input.new ≡ input.old }
-    ensures out { out.new ≡ out.old }
 {
     let status = carry_out(alloc, words, store, input, out, err);
     match status {
-        Status::Done => {}
+        Status::Done | Status::Faulted(_) => {}
         _ => tell(err, words, status),
     }
     status
@@ -64,27 +63,33 @@ fn carry_out<S: Store, I: Source, O: Sink, P: Sink>(
     out: &mut O,
     err: &mut P,
 ) -> Status
-    ensures usage { (result ≡ Status.Usage) ↔ (command_of words.now ≡ None) }
-    ensures says { Says (command_of words.now) words.now result (S.told store.old) (P.told err.old) (P.told err.new) }
-    ensures gives { Gives (command_of words.now) result (P.told err.old) (P.told err.new) }
-    ensures missing { NamesMissing (command_of words.now) result }
-    ensures store_fault { result ≡ Status.StoreFault → HasRisen (S.faults store.old) (S.faults store.new) }
-    ensures store_same { result ≢ Status.StoreFault → S.faults store.new ≡ S.faults store.old }
-    ensures err_fault { result ≡ Status.ErrFault → HasRisen (P.faults err.old) (P.faults err.new) }
-    ensures err_same { result ≢ Status.ErrFault → P.faults err.new ≡ P.faults err.old }
-    ensures store_later { S.faults store.old ≤ S.faults store.new }
-    ensures err_later { P.faults err.old ≤ P.faults err.new }
-    ensures files { SameFiles (S.told store.old) (S.told store.new) }
+    ensures usage { (result ≡ Status.Usage) ↔ (task_in words.now ≡ None) }
+    ensures keeps { Keeps (task_in words.now) words.now result
+        (record { files = S.told store.old; streams = record { input = I.told input.old; out = O.told out.old; err = P.told err.old }; counts = record { store = S.faults store.old; input = I.faults input.old; out = O.faults out.old; err = P.faults err.old } })
+        (record { files = S.told store.new; streams = record { input = I.told input.new; out = O.told out.new; err = P.told err.new }; counts = record { store = S.faults store.new; input = I.faults input.new; out = O.faults out.new; err = P.faults err.new } }) }
+    ensures causes { HasCauses result (record { store = S.faults store.old; input = I.faults input.old; out = O.faults out.old; err = P.faults err.old }) (record { store = S.faults store.new; input = I.faults input.new; out = O.faults out.new; err = P.faults err.new }) }
     ensures store_rest { S.same_rest store.old store.new }
+    ensures input_rest { I.same_rest input.old input.new }
+    ensures out_rest { O.same_rest out.old out.new }
     ensures err_rest { P.same_rest err.old err.new }
-    ensures input { input.new ≡ input.old }
-    ensures out { out.new ≡ out.old }
 {
-    match read_words(words) {
-        Some(Command::Run { prog }) => run(
+    match read_task(words) {
+        Some(Task::Run { prog, fuel }) => run(
             alloc,
             &words[prog as usize],
             prog,
+            fuel,
+            store,
+            input,
+            out,
+            err,
+        ),
+        Some(Task::Plain { prog, trace, fuel }) => plain(
+            alloc,
+            &words[prog as usize],
+            prog,
+            &words[trace as usize],
+            fuel,
             store,
             input,
             out,

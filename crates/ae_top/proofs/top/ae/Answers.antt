@@ -1,4 +1,4 @@
-use Rattle.ae_top.proofs.Behind.{line_behind}
+use Rattle.ae_top.proofs.Behind.{line_behind, risen_behind}
 use Rattle.ae_top.proofs.top.ae.Goals as goal
 
 pub returns-in_default-clause-promise : goal.returns-in_default-clause-promise
@@ -7,13 +7,16 @@ returns-in_default-clause-promise g c =
     let faults = g.P.Sink.faults in
     let carried = c.carry_out-status in
     record {
-      middle = told carried.new.err;
-      faults_middle = faults carried.new.err;
-      says = carried.ensures.says;
-      gives = carried.ensures.gives;
-      first = carried.ensures.err_later;
-      second = c.tell.ensures.later;
-      risen = carried.ensures.err_fault;
-      same = carried.ensures.err_same;
-      line = line_behind c.args.words.now carried.result (told carried.new.err) (told c.tell.new.sink) (faults carried.new.err) (faults c.tell.new.sink) c.in_default.not-Done c.tell.ensures.line;
+      err = told carried.new.err;
+      err_count = faults carried.new.err;
+      keeps = carried.ensures.keeps;
+      causes = carried.ensures.causes;
+      line = line_behind c.args.words.now carried.result (told carried.new.err) (told c.tell.new.sink) (faults carried.new.err) (faults c.tell.new.sink) c.in_default.not-Done c.in_default.not-Faulted c.tell.ensures.line;
+      later = c.tell.ensures.later;
     }
+
+pub returns-in_default-clause-err_fault : goal.returns-in_default-clause-err_fault
+returns-in_default-clause-err_fault g c = λ is.
+    let faults = g.P.Sink.faults in
+    let carried = c.carry_out-status in
+    risen_behind (faults c.args.err.now) (faults carried.new.err) (faults c.tell.new.sink) (carried.ensures.causes.streams.err_fault is) c.tell.ensures.later

@@ -1,0 +1,138 @@
+-- Where the file words of a command stand among all words.
+use Rattle.std.proofs.Common.{◌≡◌, subst, ℕ, ◌<◌, Bool, true, false, List, [], ◌∷◌, length, arith, Option, None, Some}
+use Rattle.std.specs.Prelude.{⊤, MatchOption, if◌then◌else◌, codes, ◌&&◌}
+use Rattle.std.specs.Option.{option_map, option_and_then}
+use Rattle.std.specs.Str.{bytes_eq}
+use Rattle.ae_words.specs.declared.command.Command.{Command}
+use Rattle.ae_words.specs.declared.command.Command.TheVariants.{Run, Plain, Rewrite, Regenerate, Profile, PrintEvents, Sample}
+use Rattle.ae_words.specs.declared.options.RunOptions.{RunOptions}
+use Rattle.ae_words.specs.Numbers.{short_positive_number}
+use Rattle.ae_words.specs.Files.{is_file_word, are_file_words}
+use Rattle.ae_words.specs.Options.{no_options, run_options, plain_options}
+use Rattle.ae_words.specs.Command.{run_with, run_of, plain_of, rewrite_of, regenerate_of, profile_of, kind_of, print_of, sample_of, help_of}
+use Rattle.ae_top.specs.declared.task.Task.{Task}
+use Rattle.ae_top.specs.Task.{task_of, task_in}
+
+-- the file words that a task names are among so many words
+abbrev pub Within : ℕ → Task → Type 0
+Within count (Task.Run prog fuel) = prog < count
+Within count (Task.Plain prog trace fuel) = (prog < count) × (trace < count)
+
+-- the same of the task of a command
+abbrev Names : ℕ → Option Command → Type 0
+Names count command = MatchOption (option_and_then task_of command) ⊤ (Within count)
+
+either : (count : ℕ) (test : Bool) (one other : Option Command) → Names count one → Names count other → Names count (if test then one else other)
+either count true one other left right = left
+either count false one other left right = right
+
+-- where a test fails there is no command
+where_so : (count : ℕ) (test : Bool) (command : Option Command) → Names count command → Names count (if test then command else None)
+where_so count test command named = either count test command None named tt
+
+run_named : (count : ℕ) (events fuel dump : Option ℕ) → 1 < count → Names count (Some (Run 1 events fuel dump))
+run_named count None fuel None h = h
+run_named count None fuel (Some dump) h = tt
+run_named count (Some events) fuel dump h = tt
+
+options_named : (count : ℕ) (events : Option ℕ) (given : Option RunOptions) → 1 < count
+    → Names count (option_map (λ given. Run 1 events given.fuel given.dump) given)
+options_named count events None h = tt
+options_named count events (Some given) h = run_named count events given.fuel given.dump h
+
+run_with_named : (count : ℕ) (files : List (List ℕ)) (events : Option ℕ) (place : ℕ) (options : List (List ℕ)) → 1 < count → Names count (run_with files events place options)
+run_with_named count files events place options h =
+    where_so count (are_file_words files) (option_map (λ given. Run 1 events given.fuel given.dump) (run_options files no_options place options))
+    (options_named count events (run_options files no_options place options) h)
+
+run_of_named : (count : ℕ) (words : List (List ℕ)) → length words < count → Names count (run_of words)
+run_of_named count [] h = tt
+run_of_named count (prog ∷ []) h = run_with_named count (prog ∷ []) None 2 [] (omega arith)
+run_of_named count (prog ∷ second ∷ rest) h =
+    let two : 1 < count = omega arith in
+    either count (is_file_word second) (run_with (prog ∷ second ∷ []) (Some 2) 3 rest) (run_with (prog ∷ []) None 2 (second ∷ rest))
+    (run_with_named count (prog ∷ second ∷ []) (Some 2) 3 rest two)
+    (run_with_named count (prog ∷ []) None 2 (second ∷ rest) two)
+
+fuel_named : (count : ℕ) (fuel : Option (Option ℕ)) → 2 < count → Names count (option_map (λ fuel. Plain 1 2 fuel) fuel)
+fuel_named count None h = tt
+fuel_named count (Some fuel) h = (omega arith, h)
+
+plain_of_named : (count : ℕ) (words : List (List ℕ)) → length words < count → Names count (plain_of words)
+plain_of_named count [] h = tt
+plain_of_named count (prog ∷ []) h = tt
+plain_of_named count (prog ∷ trace ∷ options) h =
+    where_so count (are_file_words (prog ∷ trace ∷ [])) (option_map (λ fuel. Plain 1 2 fuel) (plain_options options))
+    (fuel_named count (plain_options options) (omega arith))
+
+rewrite_of_named : (count : ℕ) (words : List (List ℕ)) → Names count (rewrite_of words)
+rewrite_of_named count [] = tt
+rewrite_of_named count (prog ∷ []) = tt
+rewrite_of_named count (prog ∷ new ∷ []) = tt
+rewrite_of_named count (prog ∷ new ∷ schema ∷ []) = where_so count (are_file_words (prog ∷ new ∷ schema ∷ [])) (Some (Rewrite 1 2 3)) tt
+rewrite_of_named count (prog ∷ new ∷ schema ∷ more ∷ rest) = tt
+
+regenerate_of_named : (count : ℕ) (words : List (List ℕ)) → Names count (regenerate_of words)
+regenerate_of_named count [] = tt
+regenerate_of_named count (schema ∷ []) = tt
+regenerate_of_named count (schema ∷ events ∷ []) = tt
+regenerate_of_named count (schema ∷ events ∷ trace ∷ []) = where_so count (are_file_words (schema ∷ events ∷ trace ∷ [])) (Some (Regenerate 1 2 3)) tt
+regenerate_of_named count (schema ∷ events ∷ trace ∷ more ∷ rest) = tt
+
+profile_of_named : (count : ℕ) (words : List (List ℕ)) → Names count (profile_of words)
+profile_of_named count [] = tt
+profile_of_named count (schema ∷ []) = tt
+profile_of_named count (schema ∷ events ∷ []) = where_so count (are_file_words (schema ∷ events ∷ [])) (Some (Profile 1 2)) tt
+profile_of_named count (schema ∷ events ∷ more ∷ rest) = tt
+
+kind_of_named : (count : ℕ) (kind : List ℕ) → Names count (kind_of kind)
+kind_of_named count kind =
+    either count (bytes_eq kind (codes "elf")) _ _ tt (either count (bytes_eq kind (codes "code")) _ _ tt (either count (bytes_eq kind (codes "graph")) _ _ tt (either count (bytes_eq kind (codes "needs")) _ _ tt (either count (bytes_eq kind (codes "slice")) _ _ tt (either count (bytes_eq kind (codes "schema")) _ _ tt (tt))))))
+
+print_of_named : (count : ℕ) (words : List (List ℕ)) → Names count (print_of words)
+print_of_named count [] = tt
+print_of_named count (kind ∷ []) = tt
+print_of_named count (kind ∷ file ∷ []) = where_so count (is_file_word file) (kind_of kind) (kind_of_named count kind)
+print_of_named count (kind ∷ schema ∷ events ∷ []) =
+    where_so count (bytes_eq kind (codes "events") && are_file_words (schema ∷ events ∷ [])) (Some (PrintEvents 2 3)) tt
+print_of_named count (kind ∷ schema ∷ events ∷ more ∷ rest) = tt
+
+number_named : (count : ℕ) (number : Option ℕ) → Names count (option_map (λ n. Sample n 2 3 4) number)
+number_named count None = tt
+number_named count (Some number) = tt
+
+sample_of_named : (count : ℕ) (words : List (List ℕ)) → Names count (sample_of words)
+sample_of_named count [] = tt
+sample_of_named count (number ∷ []) = tt
+sample_of_named count (number ∷ new ∷ []) = tt
+sample_of_named count (number ∷ new ∷ schema ∷ []) = tt
+sample_of_named count (number ∷ new ∷ schema ∷ events ∷ []) =
+    where_so count (are_file_words (new ∷ schema ∷ events ∷ [])) (option_map (λ n. Sample n 2 3 4) (short_positive_number number))
+    (number_named count (short_positive_number number))
+sample_of_named count (number ∷ new ∷ schema ∷ events ∷ more ∷ rest) = tt
+
+help_of_named : (count : ℕ) (words : List (List ℕ)) → Names count (help_of words)
+help_of_named count [] = tt
+help_of_named count (word ∷ words) = tt
+
+-- each file word that the task of these words names is one of them
+pub named : (words : List (List ℕ)) → MatchOption (task_in words) ⊤ (Within (length words))
+named [] = tt
+named (name ∷ words) =
+    let count = length (name ∷ words) in
+    let fewer : length words < count = omega arith in
+    either count (bytes_eq name (codes "run")) _ _ (run_of_named count words fewer)
+    (either count (bytes_eq name (codes "plain")) _ _ (plain_of_named count words fewer)
+    (either count (bytes_eq name (codes "rewrite")) _ _ (rewrite_of_named count words)
+    (either count (bytes_eq name (codes "regenerate")) _ _ (regenerate_of_named count words)
+    (either count (bytes_eq name (codes "profile")) _ _ (profile_of_named count words)
+    (either count (bytes_eq name (codes "print")) _ _ (print_of_named count words)
+    (either count (bytes_eq name (codes "sample")) _ _ (sample_of_named count words)
+    (either count (bytes_eq name (codes "help")) _ _ (help_of_named count words) tt)))))))
+
+pub run_named_word : (words : List (List ℕ)) (prog fuel : ℕ) → task_in words ≡ Some (Task.Run prog fuel) → prog < length words
+run_named_word words prog fuel is = subst (λ (task : Option Task). MatchOption task ⊤ (Within (length words))) is (named words)
+
+pub plain_named_words : (words : List (List ℕ)) (prog trace fuel : ℕ) → task_in words ≡ Some (Task.Plain prog trace fuel)
+    → (prog < length words) × (trace < length words)
+plain_named_words words prog trace fuel is = subst (λ (task : Option Task). MatchOption task ⊤ (Within (length words))) is (named words)

@@ -1,0 +1,66 @@
+use Rattle.std.proofs.Common.{◌≡◌, ◌<◌, [], length, Some, ap, sym, ◌∙◌}
+use Rattle.std.proofs.lemmas.List.{get_or_read}
+use Rattle.ae_top.specs.declared.task.Task.TheVariants.{Run, Plain}
+use Rattle.ae_top.specs.Task.{task_in}
+use Rattle.ae_top.specs.World.{World}
+use Rattle.ae_top.proofs.KeptTop.{run_kept, plain_kept}
+use Rattle.ae_top.proofs.Named.{run_named_word, plain_named_words}
+use Rattle.ae_top.proofs.top.carry_out.Goals as goal
+
+pub bounds-words-prog : goal.bounds-words-prog
+bounds-words-prog g c =
+    let is : task_in c.args.words.now ≡ Some (Run c.in-Some-Run.prog c.in-Some-Run.fuel) = sym c.read_task.ensures ∙ c.in-Some-Run.is ∙ ap Some c.in-Some-Run.field-0-is in
+    run_named_word c.args.words.now c.in-Some-Run.prog c.in-Some-Run.fuel is
+
+pub bounds-words-prog-in-Some-Plain : goal.bounds-words-prog-in-Some-Plain
+bounds-words-prog-in-Some-Plain g c =
+    let task = c.in-Some-Plain in
+    let is : task_in c.args.words.now ≡ Some (Plain task.prog task.trace task.fuel) = sym c.read_task.ensures ∙ task.is ∙ ap Some task.field-0-is in
+    (plain_named_words c.args.words.now task.prog task.trace task.fuel is).0
+
+pub bounds-words-trace : goal.bounds-words-trace
+bounds-words-trace g c =
+    let task = c.in-Some-Plain in
+    let is : task_in c.args.words.now ≡ Some (Plain task.prog task.trace task.fuel) = sym c.read_task.ensures ∙ task.is ∙ ap Some task.field-0-is in
+    (plain_named_words c.args.words.now task.prog task.trace task.fuel is).1
+
+pub returns-in-Some-Run-clause-keeps : goal.returns-in-Some-Run-clause-keeps
+returns-in-Some-Run-clause-keeps g c =
+    let words = c.args.words.now in
+    let task = c.in-Some-Run in
+    let is : task_in words ≡ Some (Run task.prog task.fuel) = sym c.read_task.ensures ∙ task.is ∙ ap Some task.field-0-is in
+    let within : task.prog < length words = run_named_word words task.prog task.fuel is in
+    let named = get_or_read words task.prog c.index-words-prog.result within c.index-words-prog.is [] in
+    let before : World = record {
+      files = g.S.Store.told c.args.store.now;
+      streams = record { input = g.I.Source.told c.args.input.now; out = g.O.Sink.told c.args.out.now; err = g.P.Sink.told c.args.err.now };
+      counts = record { store = g.S.Store.faults c.args.store.now; input = g.I.Source.faults c.args.input.now; out = g.O.Sink.faults c.args.out.now; err = g.P.Sink.faults c.args.err.now };
+    } in
+    let now : World = record {
+      files = g.S.Store.told c.run.new.store;
+      streams = record { input = g.I.Source.told c.run.new.input; out = g.O.Sink.told c.run.new.out; err = g.P.Sink.told c.run.new.err };
+      counts = record { store = g.S.Store.faults c.run.new.store; input = g.I.Source.faults c.run.new.input; out = g.O.Sink.faults c.run.new.out; err = g.P.Sink.faults c.run.new.err };
+    } in
+    run_kept (task_in words) words task.prog task.fuel c.index-words-prog.result c.run.result before now is named c.run.ensures.keeps
+
+pub returns-in-Some-Plain-clause-keeps : goal.returns-in-Some-Plain-clause-keeps
+returns-in-Some-Plain-clause-keeps g c =
+    let words = c.args.words.now in
+    let task = c.in-Some-Plain in
+    let is : task_in words ≡ Some (Plain task.prog task.trace task.fuel) = sym c.read_task.ensures ∙ task.is ∙ ap Some task.field-0-is in
+    let within = plain_named_words words task.prog task.trace task.fuel is in
+    let prog = c.index-words-prog-in-Some-Plain in
+    let trace = c.index-words-trace in
+    let named = get_or_read words task.prog prog.result within.0 prog.is [] in
+    let traced = get_or_read words task.trace trace.result within.1 trace.is [] in
+    let before : World = record {
+      files = g.S.Store.told c.args.store.now;
+      streams = record { input = g.I.Source.told c.args.input.now; out = g.O.Sink.told c.args.out.now; err = g.P.Sink.told c.args.err.now };
+      counts = record { store = g.S.Store.faults c.args.store.now; input = g.I.Source.faults c.args.input.now; out = g.O.Sink.faults c.args.out.now; err = g.P.Sink.faults c.args.err.now };
+    } in
+    let now : World = record {
+      files = g.S.Store.told c.plain.new.store;
+      streams = record { input = g.I.Source.told c.plain.new.input; out = g.O.Sink.told c.plain.new.out; err = g.P.Sink.told c.plain.new.err };
+      counts = record { store = g.S.Store.faults c.plain.new.store; input = g.I.Source.faults c.plain.new.input; out = g.O.Sink.faults c.plain.new.out; err = g.P.Sink.faults c.plain.new.err };
+    } in
+    plain_kept (task_in words) words task.prog task.trace task.fuel prog.result trace.result c.plain.result before now is named traced c.plain.ensures.keeps

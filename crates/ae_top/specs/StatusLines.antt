@@ -1,0 +1,60 @@
+-- The line of a status on the second output, behind what the command gave: this project's own. It ends with one newline
+-- byte. A run that has ended has its ending's line, and no other.
+use Rattle.std.specs.Prelude.{◌≡◌, ◌⊎◌, ℕ, List, [], ◌++◌, Option, slice_index_or, codes}
+use Rattle.ae_nums.specs.Decimal.{decimal_text}
+use Rattle.ae_nums.specs.Trace.{newline}
+use Rattle.ae_ports.specs.Content.{Appends, AppendsFront}
+use Rattle.ae_ports.specs.Fault.{HasRisen}
+use Rattle.ae_top.specs.declared.status.Status.{Status}
+use Rattle.ae_top.specs.declared.status.Status.TheVariants.{Done, Usage, Missing, StoreFault, InputFault, OutFault, ErrFault, FuelSpent, Faulted, NotYet, Memory}
+
+-- what a status says, before the name or number that it has
+abbrev pub status_text : Status → List ℕ
+status_text Done = []
+status_text Usage = codes "ae: usage"
+status_text (Missing word) = codes "ae: missing "
+status_text StoreFault = codes "ae: store fault"
+status_text InputFault = codes "ae: input fault"
+status_text OutFault = codes "ae: out fault"
+status_text ErrFault = codes "ae: err fault"
+status_text (FuelSpent steps) = codes "ae: fuel spent "
+status_text (Faulted ending) = []
+status_text NotYet = codes "ae: not yet"
+status_text Memory = codes "ae: no memory"
+
+-- the name of the file that isn't there, or the steps that were made
+abbrev pub status_detail : List (List ℕ) → Status → List ℕ
+status_detail words (Missing word) = slice_index_or words word []
+status_detail words (FuelSpent steps) = decimal_text steps
+status_detail words Done = []
+status_detail words Usage = []
+status_detail words StoreFault = []
+status_detail words InputFault = []
+status_detail words OutFault = []
+status_detail words ErrFault = []
+status_detail words (Faulted ending) = []
+status_detail words NotYet = []
+status_detail words Memory = []
+
+abbrev pub status_line : List (List ℕ) → Status → List ℕ
+status_line words status = status_text status ++ status_detail words status ++ newline
+
+-- a sink got these bytes, or a front of them where its count of faults has risen
+abbrev pub Gets : (before now : Option (List ℕ)) → (faults_before faults_now : ℕ) → List ℕ → Type 0
+Gets before now faults_before faults_now bytes =
+    Appends before now bytes ⊎ (AppendsFront before now bytes × HasRisen faults_before faults_now)
+
+-- What the second output got behind what a command gave: nothing where it is done or its run ended, else the line of the
+-- status, or a front of it where the count of faults rose.
+abbrev pub LineBehind : (words : List (List ℕ)) → Status → (middle now : Option (List ℕ)) → (faults_middle faults_now : ℕ) → Type 0
+LineBehind words Done middle now faults_middle faults_now = now ≡ middle
+LineBehind words (Faulted ending) middle now faults_middle faults_now = now ≡ middle
+LineBehind words Usage middle now faults_middle faults_now = Gets middle now faults_middle faults_now (status_line words Usage)
+LineBehind words (Missing word) middle now faults_middle faults_now = Gets middle now faults_middle faults_now (status_line words (Missing word))
+LineBehind words StoreFault middle now faults_middle faults_now = Gets middle now faults_middle faults_now (status_line words StoreFault)
+LineBehind words InputFault middle now faults_middle faults_now = Gets middle now faults_middle faults_now (status_line words InputFault)
+LineBehind words OutFault middle now faults_middle faults_now = Gets middle now faults_middle faults_now (status_line words OutFault)
+LineBehind words ErrFault middle now faults_middle faults_now = Gets middle now faults_middle faults_now (status_line words ErrFault)
+LineBehind words (FuelSpent steps) middle now faults_middle faults_now = Gets middle now faults_middle faults_now (status_line words (FuelSpent steps))
+LineBehind words NotYet middle now faults_middle faults_now = Gets middle now faults_middle faults_now (status_line words NotYet)
+LineBehind words Memory middle now faults_middle faults_now = Gets middle now faults_middle faults_now (status_line words Memory)

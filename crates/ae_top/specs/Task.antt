@@ -1,0 +1,39 @@
+-- The commands that are carried out today: `run PROG` and `plain PROG TRACE`, each with the option of its fuel. All other
+-- words are answered as if they spelled no command.
+use Rattle.std.specs.Prelude.{ℕ, List, Option, None, Some}
+use Rattle.std.specs.Option.{option_and_then}
+use Rattle.ae_words.specs.declared.command.Command.{Command}
+use Rattle.ae_words.specs.declared.command.Command.TheVariants.{Run, Plain, Rewrite, Regenerate, Profile, PrintElf, PrintCode, PrintGraph, PrintNeeds, PrintSlice, PrintSchema, PrintEvents, Sample, Help}
+use Rattle.ae_words.specs.Command.{command_of}
+use Rattle.ae_top.specs.declared.task.Task.{Task}
+
+-- the steps that a run may take where no fuel is given
+abbrev pub default_fuel : ℕ
+default_fuel = 1000000000
+
+abbrev pub fuel_of : Option ℕ → ℕ
+fuel_of None = default_fuel
+fuel_of (Some fuel) = fuel
+
+-- what a command asks for, with the places of its file words among all words
+abbrev pub task_of : Command → Option Task
+task_of (Run prog None fuel None) = Some (Task.Run prog (fuel_of fuel))
+task_of (Run prog None fuel (Some dump)) = None
+task_of (Run prog (Some events) fuel dump) = None
+task_of (Plain prog trace fuel) = Some (Task.Plain prog trace (fuel_of fuel))
+task_of (Rewrite prog new schema) = None
+task_of (Regenerate schema events trace) = None
+task_of (Profile schema events) = None
+task_of (PrintElf file) = None
+task_of (PrintCode file) = None
+task_of (PrintGraph file) = None
+task_of (PrintNeeds file) = None
+task_of (PrintSlice file) = None
+task_of (PrintSchema file) = None
+task_of (PrintEvents schema events) = None
+task_of (Sample number new schema events) = None
+task_of Help = None
+
+-- what the words ask for, none where they spell no command that is carried out
+abbrev pub task_in : List (List ℕ) → Option Task
+task_in words = option_and_then task_of (command_of words)

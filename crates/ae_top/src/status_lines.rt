@@ -1,0 +1,84 @@
+//! The lines of statuses.
+ghost use Rattle.std.specs.Prelude.{◌≡◌, ◌≤◌, ◌++◌, [], slice_index_or, OnOk, OnErr};
+ghost use Rattle.ae_nums.specs.Decimal.{decimal_text};
+ghost use Rattle.ae_nums.specs.Trace.{newline};
+ghost use Rattle.ae_ports.specs.Content.{Appends, AppendsFront};
+ghost use Rattle.ae_ports.specs.Fault.{HasCause};
+ghost use Rattle.ae_top.specs.StatusLines.{status_text, status_detail, status_line, Gets};
+
+use crate::Status;
+use ae_nums::{Text, decimal};
+use ae_ports::{Failed, Sink, Word, write_all};
+
+/// Writes a text, a detail and a newline.
+fn write_line<K: Sink>(sink: &mut K, text: &[u8], detail: &[u8]) -> Result<(), Failed>
+    ensures ok { OnOk result (Appends (K.told sink.old) (K.told sink.new) (text.now ++ detail.now ++ newline)) }
+    ensures failed { OnErr result (AppendsFront (K.told sink.old) (K.told sink.new) (text.now ++ detail.now ++ newline)) }
+    ensures cause { HasCause (K.faults sink.old) (K.faults sink.new) result }
+    ensures rest { K.same_rest sink.old sink.new }
+{
+    write_all(sink, text)?;
+    write_all(sink, detail)?;
+    write_all(sink, b"\n")
+}
+
+/// The fixed part of a status' line.
+fn text_of(status: Status) -> &'static [u8]
+    ensures { result.now ≡ status_text status }
+{
+    match status {
+        Status::Done | Status::Faulted(_) => b"",
+        Status::Usage => b"ae: usage",
+        Status::Missing { .. } => b"ae: missing ",
+        Status::StoreFault => b"ae: store fault",
+        Status::InputFault => b"ae: input fault",
+        Status::OutFault => b"ae: out fault",
+        Status::ErrFault => b"ae: err fault",
+        Status::FuelSpent { .. } => b"ae: fuel spent ",
+        Status::NotYet => b"ae: not yet",
+        Status::Memory => b"ae: no memory",
+    }
+}
+
+/// A number in decimal.
+fn digits_of(number: u64) -> Text
+    ensures { result ≡ decimal_text number }
+{
+    let mut digits = Text::new();
+    decimal(number, &mut digits);
+    digits
+}
+
+/// The bytes of the word at this place, none where there is no such word.
+fn word_at(words: &[Word], place: u32) -> &[u8]
+    ensures { result.now ≡ slice_index_or words.now place [] }
+{
+    match words.get(place as usize) {
+        Some(word) => word.bytes(),
+        None => b"",
+    }
+}
+
+/// Writes the line of a status.
+fn write_status<K: Sink>(sink: &mut K, words: &[Word], status: Status) -> Result<(), Failed>
+    ensures ok { OnOk result (Appends (K.told sink.old) (K.told sink.new) (status_line words.now status)) }
+    ensures failed { OnErr result (AppendsFront (K.told sink.old) (K.told sink.new) (status_line words.now status)) }
+    ensures cause { HasCause (K.faults sink.old) (K.faults sink.new) result }
+    ensures rest { K.same_rest sink.old sink.new }
+{
+    let text = text_of(status);
+    match status {
+        Status::Missing { word } => write_line(sink, text, word_at(words, word)),
+        Status::FuelSpent { steps } => write_line(sink, text, digits_of(steps).bytes()),
+        _ => write_line(sink, text, b""),
+    }
+}
+
+/// Writes the line of a status. Whether this can be done changes nothing.
+pub fn tell<K: Sink>(sink: &mut K, words: &[Word], status: Status)
+    ensures line { Gets (K.told sink.old) (K.told sink.new) (K.faults sink.old) (K.faults sink.new) (status_line words.now status) }
+    ensures later { K.faults sink.old ≤ K.faults sink.new }
+    ensures rest { K.same_rest sink.old sink.new }
+{
+    let _ = write_status(sink, words, status);
+}
