@@ -1,0 +1,54 @@
+// What the loops of the bench cost where nothing is interpreted: the same additions, and the same bytes written.
+//
+//   yardstick count TURNS          counts down TURNS times
+//   yardstick lines TURNS FILE     writes the trace of so many turns, in pieces of 4096 bytes
+#include <fcntl.h>
+#include <stdlib.h>
+#include <string.h>
+#include <unistd.h>
+
+static char room[4096];
+static size_t used;
+static int file;
+
+static void hand_on(void) {
+  size_t sent = 0;
+  while (sent < used) {
+    ssize_t more = write(file, room + sent, used - sent);
+    if (more <= 0) exit(1);
+    sent += (size_t)more;
+  }
+  used = 0;
+}
+
+static void line(unsigned address) {
+  static const char digits[] = "0123456789abcdef";
+  if (used + 11 > sizeof room) hand_on();
+  room[used++] = 'I';
+  room[used++] = ' ';
+  for (int at = 28; at >= 0; at -= 4) room[used++] = digits[address >> at & 15];
+  room[used++] = '\n';
+}
+
+int main(int count, char **words) {
+  if (count < 3) return 2;
+  unsigned turns = (unsigned)strtoul(words[2], 0, 10);
+  if (strcmp(words[1], "count") == 0) {
+    for (unsigned left = turns; left; left--) __asm__ volatile("" : "+r"(left));
+    return 0;
+  }
+  if (count < 4) return 2;
+  file = open(words[3], O_WRONLY | O_CREAT | O_TRUNC, 0666);
+  if (file < 0) return 1;
+  line(0x10074);
+  for (unsigned left = turns; left; left--) {
+    line(0x10078);
+    line(0x1007c);
+    if (left > 1) line(0x10080);
+  }
+  line(0x10084);
+  line(0x10088);
+  line(0x1008c);
+  hand_on();
+  return 0;
+}
