@@ -11,12 +11,12 @@ mod extent;
 mod image;
 mod instr;
 mod laws;
-mod lists;
 mod parts;
 mod results;
 #[cfg(test)]
 mod tests;
 
+pub use ae_lists::ListOf;
 pub use class::Class;
 pub use decoder::decode;
 pub use ending::Ending;
@@ -24,6 +24,5 @@ pub use extent::Extent;
 pub use image::{Image, Mark, Name, Note, Range, Region};
 pub use instr::{BranchOp, ImmOp, Instr, LoadOp, RegOp, StoreOp};
 pub use laws::{a_word_means_its_entry, no_word_agrees_with_two};
-pub use lists::ListOf;
 pub use parts::{class_of, target, writes};
 pub use results::{is_taken, on_registers, op_result};

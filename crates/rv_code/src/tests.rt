@@ -1,7 +1,6 @@
 use crate::{
-    BranchOp, Class, ImmOp, Instr, ListOf, LoadOp, RegOp, StoreOp, class_of, decode, target, writes,
+    BranchOp, Class, ImmOp, Instr, LoadOp, RegOp, StoreOp, class_of, decode, target, writes,
 };
-use std::test::Fail;
 
 fn branch(op: BranchOp, rs1: u8, rs2: u8, imm: i32) -> Instr {
     Instr::Branch { op, rs1, rs2, imm }
@@ -24,87 +23,88 @@ fn op(op: RegOp, rd: u8, rs1: u8, rs2: u8) -> Instr {
 }
 
 // The words and what they mean are an assembler's: GNU `as` for rv32im.
+const FORMATS: [(u32, Instr); 19] = [
+    (
+        0x0001_12b7,
+        Instr::Lui {
+            rd: 5,
+            imm: 0x1_1000,
+        },
+    ),
+    (
+        0x8000_02b7,
+        Instr::Lui {
+            rd: 5,
+            imm: 0x8000_0000,
+        },
+    ),
+    (
+        0xffff_ffb7,
+        Instr::Lui {
+            rd: 31,
+            imm: 0xffff_f000,
+        },
+    ),
+    (0x0000_0037, Instr::Lui { rd: 0, imm: 0 }),
+    (0x0000_0297, Instr::Auipc { rd: 5, imm: 0 }),
+    (
+        0x8000_0097,
+        Instr::Auipc {
+            rd: 1,
+            imm: 0x8000_0000,
+        },
+    ),
+    (0x0100_00ef, Instr::Jal { rd: 1, imm: 16 }),
+    (0xff9f_f0ef, Instr::Jal { rd: 1, imm: -8 }),
+    (
+        0x8000_006f,
+        Instr::Jal {
+            rd: 0,
+            imm: -1_048_576,
+        },
+    ),
+    (
+        0x7fff_ffef,
+        Instr::Jal {
+            rd: 31,
+            imm: 1_048_574,
+        },
+    ),
+    (0x0010_02ef, Instr::Jal { rd: 5, imm: 2048 }),
+    (
+        0x0000_8067,
+        Instr::Jalr {
+            rd: 0,
+            rs1: 1,
+            imm: 0,
+        },
+    ),
+    (
+        0x800f_0fe7,
+        Instr::Jalr {
+            rd: 31,
+            rs1: 30,
+            imm: -2048,
+        },
+    ),
+    (
+        0x7ff3_02e7,
+        Instr::Jalr {
+            rd: 5,
+            rs1: 6,
+            imm: 2047,
+        },
+    ),
+    (0x0ff0_000f, Instr::Fence(0x0ff0_000f)),
+    (0x8330_000f, Instr::Fence(0x8330_000f)),
+    (0xffff_8f8f, Instr::Fence(0xffff_8f8f)),
+    (0x0000_0073, Instr::Ecall),
+    (0x0010_0073, Instr::Ebreak),
+];
+
 #[test]
 fn reads_each_format(rt: HostRuntime) {
-    let table = [
-        (
-            0x0001_12b7,
-            Instr::Lui {
-                rd: 5,
-                imm: 0x1_1000,
-            },
-        ),
-        (
-            0x8000_02b7,
-            Instr::Lui {
-                rd: 5,
-                imm: 0x8000_0000,
-            },
-        ),
-        (
-            0xffff_ffb7,
-            Instr::Lui {
-                rd: 31,
-                imm: 0xffff_f000,
-            },
-        ),
-        (0x0000_0037, Instr::Lui { rd: 0, imm: 0 }),
-        (0x0000_0297, Instr::Auipc { rd: 5, imm: 0 }),
-        (
-            0x8000_0097,
-            Instr::Auipc {
-                rd: 1,
-                imm: 0x8000_0000,
-            },
-        ),
-        (0x0100_00ef, Instr::Jal { rd: 1, imm: 16 }),
-        (0xff9f_f0ef, Instr::Jal { rd: 1, imm: -8 }),
-        (
-            0x8000_006f,
-            Instr::Jal {
-                rd: 0,
-                imm: -1_048_576,
-            },
-        ),
-        (
-            0x7fff_ffef,
-            Instr::Jal {
-                rd: 31,
-                imm: 1_048_574,
-            },
-        ),
-        (0x0010_02ef, Instr::Jal { rd: 5, imm: 2048 }),
-        (
-            0x0000_8067,
-            Instr::Jalr {
-                rd: 0,
-                rs1: 1,
-                imm: 0,
-            },
-        ),
-        (
-            0x800f_0fe7,
-            Instr::Jalr {
-                rd: 31,
-                rs1: 30,
-                imm: -2048,
-            },
-        ),
-        (
-            0x7ff3_02e7,
-            Instr::Jalr {
-                rd: 5,
-                rs1: 6,
-                imm: 2047,
-            },
-        ),
-        (0x0ff0_000f, Instr::Fence(0x0ff0_000f)),
-        (0x8330_000f, Instr::Fence(0x8330_000f)),
-        (0xffff_8f8f, Instr::Fence(0xffff_8f8f)),
-        (0x0000_0073, Instr::Ecall),
-        (0x0010_0073, Instr::Ebreak),
-    ];
-    for (word, want) in table {
+    for (word, want) in FORMATS {
         assert_eq!(rt; decode(word), want, "at {word:08x}");
     }
 }
@@ -179,51 +179,52 @@ fn reads_operations(rt: HostRuntime) {
     }
 }
 
+const OTHER_WORDS: [u32; 33] = [
+    0x0000_0000,
+    0xffff_ffff,
+    // two compressed instructions
+    0x4501_4501,
+    // funct3 of jalr, branches, loads and stores
+    0x0000_9067,
+    0xfe03_28e3,
+    0xfe03_38e3,
+    0x0002_b383,
+    0x0002_e383,
+    0x0002_f383,
+    0x0011_3623,
+    // shift amounts of 32 and 63, and funct7 of slli
+    0x0201_1093,
+    0x03f2_5193,
+    0x43f4_d413,
+    0x4001_1093,
+    // funct7 of operations on registers
+    0x4062_9233,
+    0x047e_0e33,
+    0x427e_0e33,
+    0xfe7e_0e33,
+    // fence.i, csrrw, csrrs, mret and wfi
+    0x0000_100f,
+    0x3003_12f3,
+    0xc000_2573,
+    0x3020_0073,
+    0x1050_0073,
+    // ecall and ebreak with rd, rs1, rs2 or funct7 set
+    0x0000_00f3,
+    0x0000_8073,
+    0x0020_0073,
+    0x0200_0073,
+    0x0010_00f3,
+    0x0010_8073,
+    // instructions of 64 bits, atomic ones and those of floats
+    0x0000_001b,
+    0x0000_003b,
+    0x1000_202f,
+    0x0000_2007,
+];
+
 #[test]
 fn refuses_other_words(rt: HostRuntime) {
-    let words = [
-        0x0000_0000,
-        0xffff_ffff,
-        // two compressed instructions
-        0x4501_4501,
-        // funct3 of jalr, branches, loads and stores
-        0x0000_9067,
-        0xfe03_28e3,
-        0xfe03_38e3,
-        0x0002_b383,
-        0x0002_e383,
-        0x0002_f383,
-        0x0011_3623,
-        // shift amounts of 32 and 63, and funct7 of slli
-        0x0201_1093,
-        0x03f2_5193,
-        0x43f4_d413,
-        0x4001_1093,
-        // funct7 of operations on registers
-        0x4062_9233,
-        0x047e_0e33,
-        0x427e_0e33,
-        0xfe7e_0e33,
-        // fence.i, csrrw, csrrs, mret and wfi
-        0x0000_100f,
-        0x3003_12f3,
-        0xc000_2573,
-        0x3020_0073,
-        0x1050_0073,
-        // ecall and ebreak with rd, rs1, rs2 or funct7 set
-        0x0000_00f3,
-        0x0000_8073,
-        0x0020_0073,
-        0x0200_0073,
-        0x0010_00f3,
-        0x0010_8073,
-        // instructions of 64 bits, atomic ones and those of floats
-        0x0000_001b,
-        0x0000_003b,
-        0x1000_202f,
-        0x0000_2007,
-    ];
-    for word in words {
+    for word in OTHER_WORDS {
         assert_eq!(rt; decode(word), Instr::Bad(word), "at {word:08x}");
     }
 }
@@ -263,12 +264,4 @@ fn tells_class_register_and_target(rt: HostRuntime) {
         assert_eq!(rt; writes(&instr), register, "register of {word:08x}");
         assert_eq!(rt; target(&instr, address), to, "target of {word:08x}");
     }
-}
-
-#[test]
-fn a_list_keeps_its_items(rt: HostRuntime) -> Result<(), Fail> {
-    let list = ListOf::from_vec(vec![in rt.alloc(); 7u32, 5, 7]?);
-    assert_eq!(rt; list.as_slice(), [7, 5, 7].as_slice());
-    assert_eq!(rt; list.into_vec().as_slice(), [7, 5, 7].as_slice());
-    Ok(())
 }
