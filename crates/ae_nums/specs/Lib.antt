@@ -4,3 +4,4 @@ pub mod Trace
 pub mod Taken
 pub mod Writer
 pub mod Gathering
+pub mod Spans
