@@ -1,0 +1,10 @@
+pub mod Numbers
+pub mod Header
+pub mod Segments
+pub mod Sections
+pub mod Zeros
+pub mod Names
+pub mod Symbols
+pub mod Relocations
+pub mod Raw
+pub mod Refusal

@@ -1,0 +1,92 @@
+-- Which files aren't taken for a static executable of RV32 without compressed instructions and floating point registers in
+-- calls: the first refusal that holds, in this order. What the fields mean is the System V ABI's, the machine's number and
+-- flags are the RISC-V psABI's; the refusals and their order are this project's own.
+use Rattle.std.specs.Prelude.{◌≡◌, ℕ, ◌<◌, ◌≤◌, false, ◌+◌, ◌*◌, ◌/◌, ◌%◌, Bool, not, ◌&&◌, ◌||◌, ◌==◌, List, [], ◌∷◌, length, take, nat_lt, if◌then◌else◌, Option, None, Some, slice_index}
+use Rattle.std.specs.List.{find}
+use Rattle.std.specs.Option.{option_map}
+use Rattle.std.specs.List.{range_with_len}
+use Rattle.std.specs.Str.{bytes_eq}
+use Rattle.elf_raw.specs.declared.fault.ElfFault.{ElfFault}
+use Rattle.elf_raw.specs.declared.fault.ElfFault.TheVariants.{NotElf, NotElf32Le, NotExec, NotRiscv, Compressed, OtherAbi, BadTable}
+use Rattle.elf_raw.specs.declared.section.RawSection.{RawSection}
+use Rattle.elf_raw.specs.Header.{header_size, header_of}
+use Rattle.elf_raw.specs.Segments.{segment_offset, segment_of}
+use Rattle.elf_raw.specs.Sections.{type_symbols, type_strings, type_relocations, has_no_bytes, section_offset, section_of}
+
+-- so many bytes from an offset on reach past the end; a piece with no bytes reaches past nothing
+abbrev pub reaches_past : List ℕ → (offset size : ℕ) → Bool
+reaches_past bytes offset size = not (size == 0) && nat_lt (length bytes) (offset + size)
+
+-- the first four bytes are the magic number
+abbrev pub has_magic : List ℕ → Bool
+has_magic bytes = bytes_eq (take 4 bytes) (0x7f ∷ 0x45 ∷ 0x4c ∷ 0x46 ∷ [])
+
+-- the bytes of the program header with this number reach past the end
+abbrev pub segment_offends : List ℕ → ℕ → Bool
+segment_offends bytes number = reaches_past bytes (segment_of bytes number).offset (segment_of bytes number).filesz
+
+-- a symbol table with entries of another size than 16, or part of an entry, or no string table
+abbrev pub symbols_offend : List ℕ → RawSection → Bool
+symbols_offend bytes section =
+    (section.kind == type_symbols)
+    && (not (section.entsize == 16) || not (section.size % 16 == 0)
+    || not (nat_lt section.link (header_of bytes).shnum) || not ((section_of bytes section.link).kind == type_strings))
+
+-- a relocation table with entries of another size than 12, or part of an entry
+abbrev pub relocations_offend : RawSection → Bool
+relocations_offend section = (section.kind == type_relocations) && (not (section.entsize == 12) || not (section.size % 12 == 0))
+
+abbrev pub section_offends : List ℕ → ℕ → Bool
+section_offends bytes number =
+    (not (has_no_bytes (section_of bytes number).kind) && reaches_past bytes (section_of bytes number).offset (section_of bytes number).size)
+    || symbols_offend bytes (section_of bytes number)
+    || relocations_offend (section_of bytes number)
+
+-- the offset of the first program header, and then of the first section header, that offends
+abbrev pub bad_segment : List ℕ → Option ℕ
+bad_segment bytes = option_map (segment_offset bytes) (find (segment_offends bytes) (range_with_len 0 (header_of bytes).phnum))
+
+abbrev pub bad_section : List ℕ → Option ℕ
+bad_section bytes = option_map (section_offset bytes) (find (section_offends bytes) (range_with_len 0 (header_of bytes).shnum))
+
+abbrev pub first_of : Option ℕ → Option ℕ → Option ℕ
+first_of None second = second
+first_of (Some offset) second = Some offset
+
+-- the offset of what is wrong with the tables, by the field of the header where that says it
+abbrev pub bad_table : List ℕ → Option ℕ
+bad_table bytes =
+    if not ((header_of bytes).phnum == 0) && not ((header_of bytes).phentsize == 32) then Some 42
+    else (if reaches_past bytes (header_of bytes).phoff (32 * (header_of bytes).phnum) then Some 28
+    else (if not ((header_of bytes).shnum == 0) && not ((header_of bytes).shentsize == 40) then Some 46
+    else (if reaches_past bytes (header_of bytes).shoff (40 * (header_of bytes).shnum) then Some 32
+    else first_of (bad_segment bytes) (bad_section bytes))))
+
+-- a bit of the header's flags
+abbrev pub flag : List ℕ → ℕ → Bool
+flag bytes bit = (header_of bytes).flags / bit % 2 == 1
+
+-- of a file that is an ELF file of 32 bits
+abbrev pub table_refusal : List ℕ → Option ElfFault
+table_refusal bytes =
+    -- ET_EXEC, EM_RISCV
+    if not ((header_of bytes).kind == 2) then Some NotExec
+    else (if not ((header_of bytes).machine == 243) then Some NotRiscv
+    -- EF_RISCV_RVC; EF_RISCV_FLOAT_ABI and EF_RISCV_RVE
+    else (if flag bytes 1 then Some Compressed
+    else (if flag bytes 2 || flag bytes 4 || flag bytes 8 then Some OtherAbi
+    else option_map BadTable (bad_table bytes))))
+
+abbrev pub elf_refusal : List ℕ → Option ElfFault
+elf_refusal bytes =
+    if nat_lt (length bytes) header_size || not (has_magic bytes) then Some NotElf
+    -- EI_CLASS ELFCLASS32, EI_DATA ELFDATA2LSB
+    else (if not (slice_index bytes 4 == 1) || not (slice_index bytes 5 == 1) then Some NotElf32Le
+    else table_refusal bytes)
+
+-- what reading the tables rests on: the tables lie within the file, and no section offends
+pub record IsSound (bytes : List ℕ) : Type 0 where
+  pub header : header_size ≤ length bytes
+  pub segments : reaches_past bytes (header_of bytes).phoff (32 * (header_of bytes).phnum) ≡ false
+  pub sections : reaches_past bytes (header_of bytes).shoff (40 * (header_of bytes).shnum) ≡ false
+  pub each : (number : ℕ) → number < (header_of bytes).shnum → section_offends bytes number ≡ false

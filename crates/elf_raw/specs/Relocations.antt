@@ -1,0 +1,37 @@
+-- Relocation tables with addends (System V ABI, chapter 4, "Relocation": Elf32_Rela). Entries have 12 bytes.
+use Rattle.std.specs.Prelude.{ℕ, ◌+◌, ◌*◌, ◌/◌, List, [], map, if◌then◌else◌, ◌==◌}
+use Rattle.std.specs.Int.{cast_signed, w32}
+use Rattle.std.specs.List.{flat_map}
+use Rattle.std.specs.List.{range_with_len}
+use Rattle.elf_raw.specs.declared.section.RawSection.{RawSection}
+use Rattle.elf_raw.specs.declared.relocation.RawRelocation.{RawRelocation}
+use Rattle.elf_raw.specs.Header.{header_of}
+use Rattle.elf_raw.specs.Numbers.{word_at}
+use Rattle.elf_raw.specs.Sections.{type_relocations, section_of}
+
+-- the entry that stands here, of the section with this number
+abbrev pub relocation_at : List ℕ → (section : ℕ) → ℕ → RawRelocation
+relocation_at bytes section at =
+    record {
+      section = section;
+      offset = word_at bytes at;
+      info = word_at bytes (at + 4);
+      addend = cast_signed w32 (word_at bytes (at + 8));
+    }
+
+-- the entry at this place of a relocation table, counted from 0; the table is the section with this number
+abbrev pub relocation_of : List ℕ → (number : ℕ) → RawSection → ℕ → RawRelocation
+relocation_of bytes number section place = relocation_at bytes number (section.offset + 12 * place)
+
+-- the relocations of a relocation table
+abbrev pub relocations_in : List ℕ → (number : ℕ) → RawSection → List RawRelocation
+relocations_in bytes number section = map (relocation_of bytes number section) (range_with_len 0 (section.size / 12))
+
+-- the relocations of the section with this number, none where it is no relocation table
+abbrev pub relocations_of_section : List ℕ → ℕ → List RawRelocation
+relocations_of_section bytes number =
+    if (section_of bytes number).kind == type_relocations then relocations_in bytes number (section_of bytes number) else []
+
+-- the relocations of all tables, table by table in the order of the sections
+abbrev pub relocations_of : List ℕ → List RawRelocation
+relocations_of bytes = flat_map (relocations_of_section bytes) (range_with_len 0 (header_of bytes).shnum)
