@@ -1,3 +1,10 @@
 pub mod Levels
 pub mod Apart
 pub mod Registers
+pub mod InOrder
+pub mod Placed
+pub mod Sample
+pub mod WordFields
+pub mod Encoded
+pub mod Decoded
+pub mod Masks

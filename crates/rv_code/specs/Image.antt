@@ -1,6 +1,6 @@
 -- What the parts of an executable's image have to do with each other, and the limits on their number and size: this
 -- project's own.
-use Rattle.std.specs.Prelude.{◌≡◌, ◌⊎◌, ℕ, ◌+◌, ◌-◌, ◌*◌, ◌%◌, ◌^◌, ◌<◌, ◌≤◌, Bool, List, [], ◌∷◌, length, map, take, drop, sum, ⊤, IfSome, is_some, if◌then◌else◌, nat_lt, IsTrue}
+use Rattle.std.specs.Prelude.{◌≡◌, ◌⊎◌, ℕ, ◌+◌, ◌-◌, ◌*◌, ◌%◌, ◌^◌, ◌<◌, ◌≤◌, Bool, List, [], ◌∷◌, length, map, take, drop, sum, ⊤, IfSome, is_some, nat_lt, IsTrue}
 use Rattle.std.specs.List.{Any, AllByRecursion, filter, flat_map}
 use Rattle.std.specs.List.Sorted.{IsStrictlyIncreasing}
 use Rattle.rv_code.specs.declared.image.Image.{Image}
@@ -10,6 +10,7 @@ use Rattle.rv_code.specs.declared.image.Name.{Name}
 use Rattle.rv_code.specs.declared.image.Note.{Note}
 use Rattle.rv_code.specs.declared.image.Mark.{Mark}
 use Rattle.rv_code.specs.Numbers.{IsByte, IsWord, bytes_of}
+use Rattle.rv_code.specs.Limits.{mapped_limit, regions_limit, ranges_limit, words_limit}
 use Rattle.rv_code.specs.Addresses.{stack_start, tracer_start}
 use Rattle.rv_code.specs.Code.{extent_end, extent_of, extents_of, is_code}
 
@@ -68,10 +69,10 @@ abbrev pub word_count : List Range → ℕ
 word_count ranges = sum (map (λ (range : Range). length range.words) ranges)
 
 pub record IsWithinLimits (image : Image) : Type 0 where
-  pub mapped : mapped_length image.regions ≤ 134217728
-  pub regions : length image.regions ≤ (if is_some image.note then 1032 else 1024)
-  pub ranges : length image.code ≤ 16
-  pub words : word_count image.code ≤ (if is_some image.note then 262144 else 32768)
+  pub mapped : mapped_length image.regions ≤ mapped_limit
+  pub regions : length image.regions ≤ regions_limit (is_some image.note)
+  pub ranges : length image.code ≤ ranges_limit
+  pub words : word_count image.code ≤ words_limit (is_some image.note)
 
 -- an image that an accepted executable may have
 pub record IsImage (image : Image) : Type 0 where

@@ -1,11 +1,14 @@
 pub mod Numbers
 pub mod Fields
 pub mod Table
+pub mod Encoding
 pub mod Levels
 pub mod Laws
 pub mod Parts
 pub mod Results
 pub mod Addresses
 pub mod Code
+pub mod Places
+pub mod Limits
 pub mod Image
 pub mod Endings

@@ -3,6 +3,7 @@ ghost use Rattle.std.specs.Prelude.{◌≡◌, ◌+◌, ◌<◌, ◌≤◌, ◌^
 ghost use Rattle.rv_code.specs.Numbers.{sign_extended};
 ghost use Rattle.rv_code.specs.Fields.{opcode, rd, funct3, rs1, rs2, funct7, imm_i, imm_s, imm_b, imm_u, imm_j};
 ghost use Rattle.rv_code.specs.Table.{meaning_of};
+ghost use Rattle.rv_code.specs.Encoding.{Fits};
 ghost use Rattle.rv_code.specs.Parts.{HasRegisters};
 ghost use Rattle.rv_code.specs.Levels.{branch_op, load_op, store_op, imm_op, shift_op, base_op, other_op, product_op, reg_op, branch_meaning, load_meaning, store_meaning, op_imm_meaning, op_meaning, jalr_meaning, fence_meaning, system_meaning, shift_meaning};
 
@@ -367,6 +368,7 @@ fn by_opcode(word: u32) -> Instr
 pub fn decode(word: u32) -> Instr
     ensures meaning { result ≡ meaning_of word }
     ensures registers { HasRegisters result }
+    ensures fits { Fits result }
 {
     by_opcode(word)
 }

@@ -1,17 +1,20 @@
 //! The instructions of RV32IM, what each reads, writes and gives, and the image of an executable.
 //!
 //! The meaning of a word is the instruction table of the RISC-V unprivileged manual, written down in `specs/` as a list
-//! of pairs: an instruction's form, and the fields that are fixed in it. [`decode`] is exactly that table.
+//! of pairs: an instruction's form, and the fields that are fixed in it. [`decode`] is exactly that table, and [`encode`]
+//! gives the one word that means an instruction.
 #![tactic(auto)]
 
 mod class;
 mod decoder;
+mod encoder;
 mod ending;
 mod extent;
 mod image;
 mod instr;
 mod laws;
 mod parts;
+mod places;
 mod results;
 #[cfg(test)]
 mod tests;
@@ -19,10 +22,14 @@ mod tests;
 pub use ae_lists::ListOf;
 pub use class::Class;
 pub use decoder::decode;
+pub use encoder::{encode, fits};
 pub use ending::Ending;
 pub use extent::Extent;
 pub use image::{Image, Mark, Name, Note, Range, Region};
 pub use instr::{BranchOp, ImmOp, Instr, LoadOp, RegOp, StoreOp};
-pub use laws::{a_word_means_its_entry, no_word_agrees_with_two};
-pub use parts::{class_of, target, writes};
-pub use results::{is_taken, on_registers, op_result};
+pub use laws::{
+    a_word_means_its_entry, no_word_agrees_with_two, places_are_in_order, runs_are_found_again,
+    words_and_instructions_agree,
+};
+pub use parts::{class_of, reads, target, writes};
+pub use results::{is_taken, on_registers, op_result, result_of};

@@ -1,7 +1,8 @@
 //! What an instruction is to the program round it.
-ghost use Rattle.std.specs.Prelude.{◌≡◌, ◌+◌};
+ghost use Rattle.std.specs.Prelude.{◌≡◌, ◌+◌, ◌<◌, [], ◌∷◌};
 ghost use Rattle.rv_code.specs.Numbers.{wrap, unsigned};
-ghost use Rattle.rv_code.specs.Parts.{class_of, but_zero, written_by, target_of};
+ghost use Rattle.rv_code.specs.Encoding.{Fits};
+ghost use Rattle.rv_code.specs.Parts.{class_of, but_zero, mask_of, sources_of, written_by, target_of};
 
 use crate::{Class, Instr};
 
@@ -53,6 +54,45 @@ pub fn writes(instr: &Instr) -> Option<u8>
         | Instr::Fence(_)
         | Instr::Ebreak
         | Instr::Bad(_) => None,
+    }
+}
+
+// a register as a bit of a mask, without x0
+fn bit_of(register: u8) -> u32
+    requires { register < 32 }
+    ensures { result ≡ mask_of (register ∷ []) }
+{
+    match register {
+        0 => 0,
+        _ => 1 << register,
+    }
+}
+
+fn bits_of(first: u8, second: u8) -> u32
+    requires { (first < 32) × (second < 32) }
+    ensures { result ≡ mask_of (first ∷ second ∷ []) }
+{
+    bit_of(first) | bit_of(second)
+}
+
+/// The registers that an instruction reads: bit k of the mask is set where it reads x(k). Bit 0 never is, since x0 always
+/// reads 0 (manual, section 2.1). The arguments of a call of the system are no part of it.
+pub fn reads(instr: &Instr) -> u32
+    requires { Fits instr.now }
+    ensures { result ≡ mask_of (sources_of instr.now) }
+{
+    match *instr {
+        Instr::Branch { rs1, rs2, .. }
+        | Instr::Store { rs1, rs2, .. }
+        | Instr::Op { rs1, rs2, .. } => bits_of(rs1, rs2),
+        Instr::Jalr { rs1, .. } | Instr::Load { rs1, .. } | Instr::OpImm { rs1, .. } => bit_of(rs1),
+        Instr::Lui { .. }
+        | Instr::Auipc { .. }
+        | Instr::Jal { .. }
+        | Instr::Fence(_)
+        | Instr::Ecall
+        | Instr::Ebreak
+        | Instr::Bad(_) => 0,
     }
 }
 

@@ -1,8 +1,10 @@
 //! What Plain instructions compute, and which branches are taken.
-ghost use Rattle.std.specs.Prelude.{◌≡◌, ◌*ℤ◌};
-ghost use Rattle.rv_code.specs.Results.{upper_half, op_result, on_registers, is_taken};
+ghost use Rattle.std.specs.Prelude.{◌≡◌, ◌*ℤ◌, IsSome};
+ghost use Rattle.rv_code.specs.Encoding.{Fits};
+ghost use Rattle.rv_code.specs.Parts.{class_of, written_by};
+ghost use Rattle.rv_code.specs.Results.{upper_half, op_result, on_registers, result_of, is_taken};
 
-use crate::{BranchOp, ImmOp, Instr, RegOp};
+use crate::{BranchOp, Class, ImmOp, Instr, RegOp};
 
 /// Bits 63..32 of a product.
 fn upper_half(product: i64) -> u32
@@ -133,6 +135,31 @@ pub fn on_registers(op: ImmOp) -> RegOp
         ImmOp::Slli => RegOp::Sll,
         ImmOp::Srli => RegOp::Srl,
         ImmOp::Srai => RegOp::Sra,
+    }
+}
+
+/// What an instruction of the class `Plain` that stands at `address` writes to its register, where it writes one; `a` and
+/// `b` are the values of rs1 and rs2 (manual, sections 2.4, 13.1 and 13.2).
+pub fn result_of(instr: &Instr, address: u32, a: u32, b: u32) -> u32
+    requires fits { Fits instr.now }
+    requires plain { class_of instr.now ≡ Class.Plain }
+    requires writes { IsSome (written_by instr.now) }
+    ensures { result ≡ result_of instr.now address a b }
+{
+    match *instr {
+        Instr::Lui { imm, .. } => imm,
+        Instr::Auipc { imm, .. } => address.wrapping_add(imm),
+        Instr::OpImm { op, imm, .. } => op_result(on_registers(op), a, imm.cast_unsigned()),
+        Instr::Op { op, .. } => op_result(op, a, b),
+        Instr::Jal { .. }
+        | Instr::Jalr { .. }
+        | Instr::Branch { .. }
+        | Instr::Load { .. }
+        | Instr::Store { .. }
+        | Instr::Fence(_)
+        | Instr::Ecall
+        | Instr::Ebreak
+        | Instr::Bad(_) => unreachable!(),
     }
 }
 

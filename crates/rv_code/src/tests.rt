@@ -1,6 +1,12 @@
+ghost use Rattle.std.specs.Prelude.{◌≡◌, IfOk};
+ghost use Rattle.rv_code.specs.Image.{IsImage};
+
 use crate::{
-    BranchOp, Class, ImmOp, Instr, LoadOp, RegOp, StoreOp, class_of, decode, target, writes,
+    BranchOp, Class, Image, ImmOp, Instr, ListOf, LoadOp, Range, RegOp, Region, StoreOp, class_of,
+    decode, encode, fits, reads, result_of, target, writes,
 };
+use std::alloc::{AllocError, Global};
+use std::test::Fail;
 
 fn branch(op: BranchOp, rs1: u8, rs2: u8, imm: i32) -> Instr {
     Instr::Branch { op, rs1, rs2, imm }
@@ -264,4 +270,229 @@ fn tells_class_register_and_target(rt: HostRuntime) {
         assert_eq!(rt; writes(&instr), register, "register of {word:08x}");
         assert_eq!(rt; target(&instr, address), to, "target of {word:08x}");
     }
+}
+
+fn encoded(instr: Instr) -> Option<u32> {
+    if fits(&instr) {
+        Some(encode(&instr))
+    } else {
+        None
+    }
+}
+
+#[test]
+fn writes_each_format(rt: HostRuntime) {
+    for (word, instr) in FORMATS {
+        assert_eq!(rt; encoded(instr), Some(word), "of {word:08x}");
+    }
+    for word in OTHER_WORDS {
+        assert_eq!(rt; encoded(Instr::Bad(word)), Some(word), "of {word:08x}");
+    }
+}
+
+#[test]
+fn writes_branches_loads_and_stores(rt: HostRuntime) {
+    let table = [
+        (0x0000_0263, branch(BranchOp::Beq, 0, 0, 4)),
+        (0xfe03_18e3, branch(BranchOp::Bne, 6, 0, -16)),
+        (0x7e83_cfe3, branch(BranchOp::Blt, 7, 8, 4094)),
+        (0x801f_d063, branch(BranchOp::Bge, 31, 1, -4096)),
+        (0x01f0_e0e3, branch(BranchOp::Bltu, 1, 31, 2048)),
+        (0xfe31_7fe3, branch(BranchOp::Bgeu, 2, 3, -2)),
+        (0xfff1_0083, load(LoadOp::Lb, 1, 2, -1)),
+        (0x7ff2_1183, load(LoadOp::Lh, 3, 4, 2047)),
+        (0x8005_5483, load(LoadOp::Lhu, 9, 10, -2048)),
+        (0x7e41_9fa3, store(StoreOp::Sh, 3, 4, 2047)),
+        (0x81ef_a023, store(StoreOp::Sw, 31, 30, -2048)),
+        (0x01f2_9293, op_imm(ImmOp::Slli, 5, 5, 31)),
+        (0x41f4_d413, op_imm(ImmOp::Srai, 8, 9, 31)),
+        (0x007e_0e33, op(RegOp::Add, 28, 28, 7)),
+    ];
+    for (word, instr) in table {
+        assert_eq!(rt; encoded(instr), Some(word), "of {word:08x}");
+    }
+}
+
+#[test]
+fn refuses_what_has_no_word(rt: HostRuntime) {
+    let table = [
+        Instr::Lui { rd: 32, imm: 0 },
+        Instr::Lui { rd: 1, imm: 1 },
+        Instr::Auipc { rd: 1, imm: 0x800 },
+        Instr::Jal { rd: 1, imm: 1 },
+        Instr::Jal {
+            rd: 1,
+            imm: 1_048_576,
+        },
+        Instr::Jal {
+            rd: 1,
+            imm: -1_048_578,
+        },
+        Instr::Jalr {
+            rd: 1,
+            rs1: 1,
+            imm: 2048,
+        },
+        branch(BranchOp::Beq, 0, 32, 4),
+        branch(BranchOp::Beq, 0, 0, 4096),
+        branch(BranchOp::Beq, 0, 0, -4098),
+        branch(BranchOp::Beq, 0, 0, 3),
+        load(LoadOp::Lw, 1, 2, -2049),
+        store(StoreOp::Sw, 255, 2, 0),
+        op_imm(ImmOp::Addi, 1, 1, 2048),
+        op_imm(ImmOp::Slli, 1, 1, 32),
+        op_imm(ImmOp::Srai, 1, 1, -1),
+        op(RegOp::Add, 1, 2, 32),
+        Instr::Fence(0x0000_0013),
+        Instr::Bad(0x0000_0013),
+    ];
+    for instr in table {
+        assert_eq!(rt; encoded(instr), None);
+    }
+}
+
+#[test]
+fn tells_what_is_read(rt: HostRuntime) {
+    let table = [
+        (0xfe03_18e3, 0x0000_0040),
+        (0x01f0_e0e3, 0x8000_0002),
+        (0x0000_8067, 0x0000_0002),
+        (0x0002_a383, 0x0000_0020),
+        (0x0011_2623, 0x0000_0006),
+        (0x05d0_0893, 0),
+        (0xff01_0113, 0x0000_0004),
+        (0x007e_0e33, 0x1000_0080),
+        (0x0001_12b7, 0),
+        (0x0100_00ef, 0),
+        (0x0ff0_000f, 0),
+        (0x0000_0073, 0),
+        (0x0010_0073, 0),
+        (0x0000_0000, 0),
+    ];
+    for (word, mask) in table {
+        assert_eq!(rt; reads(&decode(word)), mask, "of {word:08x}");
+    }
+}
+
+// what a word writes that is Plain and writes a register, at 0x8000_0010 with these values of rs1 and rs2
+fn written(word: u32, a: u32, b: u32) -> Option<u32> {
+    let instr = decode(word);
+    match (class_of(&instr), writes(&instr)) {
+        (Class::Plain, Some(_)) => Some(result_of(&instr, 0x8000_0010, a, b)),
+        _ => None,
+    }
+}
+
+#[test]
+fn tells_what_is_written(rt: HostRuntime) {
+    let table = [
+        (0x0001_12b7, 1, 1, Some(0x0001_1000)),
+        (0x8000_0097, 1, 1, Some(0x0000_0010)),
+        (0x05d0_0893, 0, 1, Some(93)),
+        (0xff01_0113, 8, 1, Some(0xffff_fff8)),
+        (0x7ff2_3193, 5, 1, Some(1)),
+        (0x41f4_d413, 0x8000_0000, 1, Some(0xffff_ffff)),
+        (0x007e_0e33, 7, 8, Some(15)),
+        (0x0000_0013, 7, 8, None),
+        (0x0ff0_000f, 7, 8, None),
+        (0x0100_00ef, 7, 8, None),
+        (0x0002_a383, 7, 8, None),
+        (0x0000_0073, 7, 8, None),
+    ];
+    for (word, a, b, want) in table {
+        assert_eq!(rt; written(word, a, b), want, "of {word:08x}");
+    }
+}
+
+/// An image of three ranges, of which two stand in one region with a word between them that is no code.
+fn sample(alloc: Global) -> Result<Image, AllocError>
+    ensures { IfOk result IsImage }
+{
+    let low = Region {
+        start: 0x1000,
+        bytes: ListOf::from_vec(vec![in alloc;
+            0x11, 0, 0, 0, 0x22, 0, 0, 0, 0x33, 0, 0, 0, 0x44, 0, 0, 0,
+        ]?),
+        zeros: 0,
+        writable: false,
+    };
+    let high = Region {
+        start: 0x2000,
+        bytes: ListOf::from_vec(vec![in alloc; 0x55, 0, 0, 0, 0x66, 0, 0, 0, 0x77, 0, 0, 0]?),
+        zeros: 8,
+        writable: false,
+    };
+    let first = Range {
+        start: 0x1000,
+        words: ListOf::from_vec(vec![in alloc; 0x11, 0x22]?),
+    };
+    let second = Range {
+        start: 0x100c,
+        words: ListOf::from_vec(vec![in alloc; 0x44]?),
+    };
+    let third = Range {
+        start: 0x2000,
+        words: ListOf::from_vec(vec![in alloc; 0x55, 0x66, 0x77]?),
+    };
+    Ok(Image {
+        entry: 0x1000,
+        regions: ListOf::from_vec(vec![in alloc; low, high]?),
+        code: ListOf::from_vec(vec![in alloc; first, second, third]?),
+        names: ListOf::from_vec(Vec::new(alloc)),
+        named: ListOf::from_vec(Vec::new(alloc)),
+        note: None,
+    })
+}
+
+/// The code words of the sample: each word's address and value, in the order of places.
+const CODE: [(u32, u32); 6] = [
+    (0x1000, 0x11),
+    (0x1004, 0x22),
+    (0x100c, 0x44),
+    (0x2000, 0x55),
+    (0x2004, 0x66),
+    (0x2008, 0x77),
+];
+
+/// Addresses of no code word: on both sides of each range's ends, and within words.
+const NO_CODE: [u32; 18] = [
+    0,
+    0x0ffc,
+    0x0fff,
+    0x1001,
+    0x1002,
+    0x1007,
+    0x1008,
+    0x100b,
+    0x100d,
+    0x1010,
+    0x1ffc,
+    0x1fff,
+    0x2003,
+    0x200b,
+    0x200c,
+    0x2010,
+    0xffff_fffc,
+    0xffff_ffff,
+];
+
+#[test]
+fn finds_words_and_places(rt: HostRuntime) -> Result<(), Fail> {
+    let image = sample(rt.alloc())?;
+    assert_eq!(rt; image.count(), 6);
+    let mut place = 0u32;
+    for (address, word) in CODE {
+        assert_eq!(rt; image.word_at(address), Some(word), "at {address:08x}");
+        assert_eq!(rt; image.place_of(address), Some(place), "at {address:08x}");
+        assert_eq!(rt; image.address_of(place), Some(address), "at {place}");
+        place = place.wrapping_add(1);
+    }
+    for address in NO_CODE {
+        assert_eq!(rt; image.word_at(address), None, "at {address:08x}");
+        assert_eq!(rt; image.place_of(address), None, "at {address:08x}");
+    }
+    for place in [6, 7, u32::MAX] {
+        assert_eq!(rt; image.address_of(place), None, "at {place}");
+    }
+    Ok(())
 }
