@@ -6,3 +6,17 @@ pub mod ZeroIndex
 pub mod NamePlace
 pub mod OneMore
 pub mod ReadSymbols
+pub mod Laid
+pub mod Placed
+pub mod HeaderBytes
+pub mod RowBytes
+pub mod Ends
+pub mod Kept
+pub mod RowsAt
+pub mod SameSections
+pub mod Taken
+pub mod ReadBack
+pub mod WrittenFile
+pub mod Shown
+pub mod ThreeWords
+pub mod TablesFile

@@ -5,7 +5,7 @@ use Rattle.std.specs.Prelude.{not, nat_lt, ◌&&◌, ◌||◌, ◌==◌}
 use Rattle.elf_raw.specs.declared.header.RawHeader.{RawHeader}
 use Rattle.elf_raw.specs.declared.section.RawSection.{RawSection}
 use Rattle.elf_raw.specs.Header.{header_of}
-use Rattle.elf_raw.specs.Refusal.{reaches_past, symbols_offend, relocations_offend, section_offends, IsSound}
+use Rattle.elf_raw.specs.Refusal.{reaches_past, symbols_misfit, symbols_offend, relocations_offend, section_offends, IsSound}
 use Rattle.elf_raw.specs.Sections.{has_no_bytes, section_of}
 
 -- of tests of which none holds
@@ -14,7 +14,7 @@ first_fails true past symbols relocations is none = absurd (cc is)
 first_fails false true symbols relocations is none = absurd (cc none)
 first_fails false false symbols relocations is none = refl
 
-second_fails : (past symbols relocations : Bool) → (past || symbols || relocations) ≡ false → symbols ≡ false
+pub second_fails : (past symbols relocations : Bool) → (past || symbols || relocations) ≡ false → symbols ≡ false
 second_fails true symbols relocations none = absurd (cc none)
 second_fails false true relocations none = absurd (cc none)
 second_fails false false relocations none = refl
@@ -37,15 +37,15 @@ symbols_within bytes number none is =
     (ap has_no_bytes is)
     none
 
-symbols_linked : (bytes : List ℕ) (section : RawSection) → symbols_offend bytes section ≡ false → section.kind ≡ 2 → section.link < (header_of bytes).shnum
-symbols_linked bytes section none is =
-    ltb-true section.link (header_of bytes).shnum
+pub symbols_linked : (sections : ℕ → RawSection) (count : ℕ) (section : RawSection) → symbols_misfit sections count section ≡ false → section.kind ≡ 2 → section.link < count
+symbols_linked sections count section none is =
+    ltb-true section.link count
     (third_fails
     (section.kind == 2)
     (not (section.entsize == 16))
     (not (section.size % 16 == 0))
-    (nat_lt section.link (header_of bytes).shnum)
-    (not ((section_of bytes section.link).kind == 3))
+    (nat_lt section.link count)
+    (not ((sections section.link).kind == 3))
     (ap (λ (k : ℕ). k == 2) is)
     none)
 
@@ -58,7 +58,7 @@ readable_of bytes number sound within kind =
     let none : section_offends bytes number ≡ false = sound.each number within in
     record {
       whole = symbols_within bytes number none kind;
-      link = symbols_linked bytes (section_of bytes number) (second_fails _ _ _ none) kind;
+      link = symbols_linked (section_of bytes) (header_of bytes).shnum (section_of bytes number) (second_fails _ _ _ none) kind;
     }
 
 pub symbols_readable : (bytes : List ℕ) (header : RawHeader) (number : ℕ) (section : RawSection) → IsSound bytes → header ≡ header_of bytes → number < header.shnum

@@ -6,7 +6,7 @@ use Rattle.std.specs.List.{find, range_with_len}
 use Rattle.std.specs.Option.{option_map}
 use Rattle.elf_raw.specs.declared.fault.ElfFault.TheVariants.{NotElf, NotElf32Le, NotExec, NotRiscv, Compressed, OtherAbi, BadTable}
 use Rattle.elf_raw.specs.Header.{header_of}
-use Rattle.elf_raw.specs.Refusal.{first_of, bad_segment, bad_section, bad_table, elf_refusal, section_offends, IsSound}
+use Rattle.elf_raw.specs.Refusal.{first_of, bad_segment, bad_section, bad_table, elf_refusal, segment_offends, section_offends, IsSound}
 
 -- a choice that gives nothing
 none_left : {A : Type 0} (t : Bool) (x : A) (rest : Option A) → cond t (Some x) rest ≡ None → (t ≡ false) × (rest ≡ None)
@@ -20,6 +20,10 @@ none_mapped f (Some x) is = absurd (cc is)
 none_second : (first second : Option ℕ) → first_of first second ≡ None → second ≡ None
 none_second None second is = is
 none_second (Some x) second is = absurd (cc is)
+
+none_first : (first second : Option ℕ) → first_of first second ≡ None → first ≡ None
+none_first None second is = refl
+none_first (Some x) second is = absurd (cc is)
 
 -- a search that finds nothing
 none_found : (p : ℕ → Bool) (from count place : ℕ) → find p (range_with_len from count) ≡ None → place < count → p (from + place) ≡ false
@@ -49,10 +53,15 @@ sound bytes none =
     let sections = none_left _ 32 _ shentsize.1 in
     let bad : bad_section bytes ≡ None = none_second (bad_segment bytes) (bad_section bytes) sections.1 in
     let none_bad = none_mapped _ _ bad in
+    let no_segment : bad_segment bytes ≡ None = none_first (bad_segment bytes) (bad_section bytes) sections.1 in
+    let none_segment = none_mapped _ _ no_segment in
     record {
       header = no_less (length bytes) 52 _ magic.0;
       segments = segments.0;
       sections = sections.0;
+      pieces = λ number within.
+          let here : number ≡ 0 + number = omega arith in
+          ap (segment_offends bytes) here ∙ none_found (segment_offends bytes) 0 (header_of bytes).phnum number none_segment within;
       each = λ number within.
           let here : number ≡ 0 + number = omega arith in
           ap (section_offends bytes) here ∙ none_found (section_offends bytes) 0 (header_of bytes).shnum number none_bad within;

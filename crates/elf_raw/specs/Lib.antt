@@ -8,3 +8,5 @@ pub mod Symbols
 pub mod Relocations
 pub mod Raw
 pub mod Refusal
+pub mod Written
+pub mod Writable

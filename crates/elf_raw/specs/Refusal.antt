@@ -9,38 +9,60 @@ use Rattle.std.specs.Str.{bytes_eq}
 use Rattle.elf_raw.specs.declared.fault.ElfFault.{ElfFault}
 use Rattle.elf_raw.specs.declared.fault.ElfFault.TheVariants.{NotElf, NotElf32Le, NotExec, NotRiscv, Compressed, OtherAbi, BadTable}
 use Rattle.elf_raw.specs.declared.section.RawSection.{RawSection}
+use Rattle.elf_raw.specs.declared.segment.RawSegment.{RawSegment}
 use Rattle.elf_raw.specs.Header.{header_size, header_of}
 use Rattle.elf_raw.specs.Segments.{segment_offset, segment_of}
 use Rattle.elf_raw.specs.Sections.{type_symbols, type_strings, type_relocations, has_no_bytes, section_offset, section_of}
 
--- so many bytes from an offset on reach past the end; a piece with no bytes reaches past nothing
+-- so many bytes from an offset on reach past an end; a piece with no bytes reaches past nothing
+abbrev pub passes : (end offset size : ℕ) → Bool
+passes end offset size = not (size == 0) && nat_lt end (offset + size)
+
+-- the same for the end of a file
 abbrev pub reaches_past : List ℕ → (offset size : ℕ) → Bool
-reaches_past bytes offset size = not (size == 0) && nat_lt (length bytes) (offset + size)
+reaches_past bytes offset size = passes (length bytes) offset size
+
+-- 0x7f and `ELF`
+abbrev pub magic : List ℕ
+magic = 0x7f ∷ 0x45 ∷ 0x4c ∷ 0x46 ∷ []
 
 -- the first four bytes are the magic number
 abbrev pub has_magic : List ℕ → Bool
-has_magic bytes = bytes_eq (take 4 bytes) (0x7f ∷ 0x45 ∷ 0x4c ∷ 0x46 ∷ [])
+has_magic bytes = bytes_eq (take 4 bytes) magic
 
--- the bytes of the program header with this number reach past the end
+-- the bytes of a program header reach past an end
+abbrev pub segment_passes : (end : ℕ) → RawSegment → Bool
+segment_passes end segment = passes end segment.offset segment.filesz
+
+-- those of the one with this number reach past the end of the file
 abbrev pub segment_offends : List ℕ → ℕ → Bool
-segment_offends bytes number = reaches_past bytes (segment_of bytes number).offset (segment_of bytes number).filesz
+segment_offends bytes number = segment_passes (length bytes) (segment_of bytes number)
 
--- a symbol table with entries of another size than 16, or part of an entry, or no string table
-abbrev pub symbols_offend : List ℕ → RawSection → Bool
-symbols_offend bytes section =
+-- a symbol table, among so many sections, with entries of another size than 16, or part of an entry, or no string table
+abbrev pub symbols_misfit : (sections : ℕ → RawSection) → (count : ℕ) → RawSection → Bool
+symbols_misfit sections count section =
     (section.kind == type_symbols)
     && (not (section.entsize == 16) || not (section.size % 16 == 0)
-    || not (nat_lt section.link (header_of bytes).shnum) || not ((section_of bytes section.link).kind == type_strings))
+    || not (nat_lt section.link count) || not ((sections section.link).kind == type_strings))
+
+-- the same among those of a file
+abbrev pub symbols_offend : List ℕ → RawSection → Bool
+symbols_offend bytes section = symbols_misfit (section_of bytes) (header_of bytes).shnum section
 
 -- a relocation table with entries of another size than 12, or part of an entry
 abbrev pub relocations_offend : RawSection → Bool
 relocations_offend section = (section.kind == type_relocations) && (not (section.entsize == 12) || not (section.size % 12 == 0))
 
+-- a section, among so many, whose bytes reach past an end or that can't be read
+abbrev pub section_misfits : (end : ℕ) → (sections : ℕ → RawSection) → (count : ℕ) → RawSection → Bool
+section_misfits end sections count section =
+    (not (has_no_bytes section.kind) && passes end section.offset section.size)
+    || symbols_misfit sections count section
+    || relocations_offend section
+
+-- the one with this number is such a section of the file
 abbrev pub section_offends : List ℕ → ℕ → Bool
-section_offends bytes number =
-    (not (has_no_bytes (section_of bytes number).kind) && reaches_past bytes (section_of bytes number).offset (section_of bytes number).size)
-    || symbols_offend bytes (section_of bytes number)
-    || relocations_offend (section_of bytes number)
+section_offends bytes number = section_misfits (length bytes) (section_of bytes) (header_of bytes).shnum (section_of bytes number)
 
 -- the offset of the first program header, and then of the first section header, that offends
 abbrev pub bad_segment : List ℕ → Option ℕ
@@ -84,9 +106,10 @@ elf_refusal bytes =
     else (if not (slice_index bytes 4 == 1) || not (slice_index bytes 5 == 1) then Some NotElf32Le
     else table_refusal bytes)
 
--- what reading the tables rests on: the tables lie within the file, and no section offends
+-- what reading the tables rests on: the tables lie within the file, and no program header and no section offends
 pub record IsSound (bytes : List ℕ) : Type 0 where
   pub header : header_size ≤ length bytes
   pub segments : reaches_past bytes (header_of bytes).phoff (32 * (header_of bytes).phnum) ≡ false
   pub sections : reaches_past bytes (header_of bytes).shoff (40 * (header_of bytes).shnum) ≡ false
+  pub pieces : (number : ℕ) → number < (header_of bytes).phnum → segment_offends bytes number ≡ false
   pub each : (number : ℕ) → number < (header_of bytes).shnum → section_offends bytes number ≡ false

@@ -27,11 +27,15 @@ relocation_of bytes number section place = relocation_at bytes number (section.o
 abbrev pub relocations_in : List ℕ → (number : ℕ) → RawSection → List RawRelocation
 relocations_in bytes number section = map (relocation_of bytes number section) (range_with_len 0 (section.size / 12))
 
--- the relocations of the section with this number, none where it is no relocation table
-abbrev pub relocations_of_section : List ℕ → ℕ → List RawRelocation
-relocations_of_section bytes number =
-    if (section_of bytes number).kind == type_relocations then relocations_in bytes number (section_of bytes number) else []
+-- the relocations of the section with this number, among these, none where it is no relocation table
+abbrev pub relocations_of_section : List ℕ → (sections : ℕ → RawSection) → ℕ → List RawRelocation
+relocations_of_section bytes sections number =
+    if (sections number).kind == type_relocations then relocations_in bytes number (sections number) else []
 
--- the relocations of all tables, table by table in the order of the sections
+-- the relocations that the bytes hold at the relocation tables among so many sections, table by table in their order
+abbrev pub relocations_among : List ℕ → (sections : ℕ → RawSection) → (count : ℕ) → List RawRelocation
+relocations_among bytes sections count = flat_map (relocations_of_section bytes sections) (range_with_len 0 count)
+
+-- those of the file's own sections
 abbrev pub relocations_of : List ℕ → List RawRelocation
-relocations_of bytes = flat_map (relocations_of_section bytes) (range_with_len 0 (header_of bytes).shnum)
+relocations_of bytes = relocations_among bytes (section_of bytes) (header_of bytes).shnum

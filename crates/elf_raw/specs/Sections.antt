@@ -1,5 +1,5 @@
 -- The section header table (System V ABI, chapter 4, "Sections": Elf32_Shdr). Entries have 40 bytes.
-use Rattle.std.specs.Prelude.{ℕ, ◌+◌, ◌*◌, Bool, List, map, ◌==◌, ◌||◌, if◌then◌else◌}
+use Rattle.std.specs.Prelude.{ℕ, ◌+◌, ◌*◌, Bool, List, map, ◌==◌, ◌||◌, if◌then◌else◌, slice_index_or}
 use Rattle.std.specs.List.{range_with_len}
 use Rattle.ae_nums.specs.declared.span.Span64.{Span64}
 use Rattle.elf_raw.specs.declared.section.RawSection.{RawSection}
@@ -29,6 +29,24 @@ has_no_bytes kind = (kind == type_null) || (kind == type_no_bits)
 -- where the bytes of a section of this type stand
 abbrev pub section_span : (kind offset size : ℕ) → Span64
 section_span kind offset size = record { from = offset; to = if has_no_bytes kind then offset else offset + size }
+
+-- the section with this number in a list, counted from 0; one with no type and no bytes where there is none
+abbrev pub section_in : List RawSection → ℕ → RawSection
+section_in sections number =
+    slice_index_or sections number
+    (record {
+      name = 0;
+      kind = type_null;
+      flags = 0;
+      addr = 0;
+      offset = 0;
+      size = 0;
+      link = 0;
+      info = 0;
+      addralign = 0;
+      entsize = 0;
+      span = section_span type_null 0 0;
+    })
 
 -- where the entry with this number stands, counted from 0
 abbrev pub section_offset : List ℕ → ℕ → ℕ

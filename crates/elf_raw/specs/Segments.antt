@@ -1,9 +1,14 @@
 -- The program header table (System V ABI, chapter 5, "Program Header": Elf32_Phdr). Entries have 32 bytes.
 use Rattle.std.specs.Prelude.{ℕ, ◌+◌, ◌*◌, List, map}
 use Rattle.std.specs.List.{range_with_len}
+use Rattle.ae_nums.specs.declared.span.Span64.{Span64}
 use Rattle.elf_raw.specs.declared.segment.RawSegment.{RawSegment}
 use Rattle.elf_raw.specs.Header.{header_of}
 use Rattle.elf_raw.specs.Numbers.{word_at}
+
+-- where so many bytes from an offset stand
+abbrev pub segment_span : (offset filesz : ℕ) → Span64
+segment_span offset filesz = record { from = offset; to = offset + filesz }
 
 -- where the entry with this number stands, counted from 0
 abbrev pub segment_offset : List ℕ → ℕ → ℕ
@@ -21,7 +26,7 @@ segment_at bytes at =
       memsz = word_at bytes (at + 20);
       flags = word_at bytes (at + 24);
       align = word_at bytes (at + 28);
-      span = record { from = word_at bytes (at + 4); to = word_at bytes (at + 4) + word_at bytes (at + 16) };
+      span = segment_span (word_at bytes (at + 4)) (word_at bytes (at + 16));
     }
 
 -- the program header with this number

@@ -23,19 +23,23 @@ symbol_at bytes section strings at =
       text = name_in bytes strings (word_at bytes at);
     }
 
--- the entry at this place of a symbol table, counted from 0; the table is the section with this number
-abbrev pub symbol_of : List ℕ → (number : ℕ) → RawSection → ℕ → RawSymbol
-symbol_of bytes number section place = symbol_at bytes number (section_of bytes section.link) (section.offset + 16 * place)
+-- the entry at this place of a symbol table, counted from 0; the table is the section with this number, among these
+abbrev pub symbol_of : List ℕ → (sections : ℕ → RawSection) → (number : ℕ) → RawSection → ℕ → RawSymbol
+symbol_of bytes sections number section place = symbol_at bytes number (sections section.link) (section.offset + 16 * place)
 
 -- the symbols of a symbol table
-abbrev pub symbols_in : List ℕ → (number : ℕ) → RawSection → List RawSymbol
-symbols_in bytes number section = map (symbol_of bytes number section) (range_with_len 0 (section.size / 16))
+abbrev pub symbols_in : List ℕ → (sections : ℕ → RawSection) → (number : ℕ) → RawSection → List RawSymbol
+symbols_in bytes sections number section = map (symbol_of bytes sections number section) (range_with_len 0 (section.size / 16))
 
 -- the symbols of the section with this number, none where it is no symbol table
-abbrev pub symbols_of_section : List ℕ → ℕ → List RawSymbol
-symbols_of_section bytes number =
-    if (section_of bytes number).kind == type_symbols then symbols_in bytes number (section_of bytes number) else []
+abbrev pub symbols_of_section : List ℕ → (sections : ℕ → RawSection) → ℕ → List RawSymbol
+symbols_of_section bytes sections number =
+    if (sections number).kind == type_symbols then symbols_in bytes sections number (sections number) else []
 
--- the symbols of all tables, table by table in the order of the sections
+-- the symbols that the bytes hold at the symbol tables among so many sections, table by table in the order of the sections
+abbrev pub symbols_among : List ℕ → (sections : ℕ → RawSection) → (count : ℕ) → List RawSymbol
+symbols_among bytes sections count = flat_map (symbols_of_section bytes sections) (range_with_len 0 count)
+
+-- those of the file's own sections
 abbrev pub symbols_of : List ℕ → List RawSymbol
-symbols_of bytes = flat_map (symbols_of_section bytes) (range_with_len 0 (header_of bytes).shnum)
+symbols_of bytes = symbols_among bytes (section_of bytes) (header_of bytes).shnum

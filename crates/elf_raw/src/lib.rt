@@ -2,12 +2,16 @@
 //!
 //! [`read_raw`] reads the header, the program headers, the sections, the symbols and the relocations of a file, or says why
 //! it isn't taken for a static executable of RV32. What it reads is all that the file's tables say; nothing is interpreted.
+//! [`write_raw`] writes a file with such tables, and with pieces of bytes at offsets, that is read back as the same tables.
 #![tactic(auto)]
 
+mod encoding;
 mod fault;
 mod header;
+mod laying;
 mod names;
 mod numbers;
+mod piece;
 mod raw;
 mod reading;
 mod refusing;
@@ -19,12 +23,16 @@ mod symbols;
 mod tables;
 #[cfg(test)]
 mod tests;
+mod writing;
 
 pub use fault::ElfFault;
 pub use header::RawHeader;
+pub use numbers::word_at;
+pub use piece::Piece;
 pub use raw::RawElf;
 pub use reading::read_raw;
 pub use relocation::RawRelocation;
-pub use section::RawSection;
+pub use section::{RawSection, has_no_bytes};
 pub use segment::RawSegment;
 pub use symbol::RawSymbol;
+pub use writing::write_raw;

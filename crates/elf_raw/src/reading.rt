@@ -40,6 +40,7 @@ pub fn read_raw(alloc: Global, bytes: &[u8]) -> Result<RawElf, ElfFault>
     requires { length bytes.now ≤ 268435456 }
     ensures read { IfOk result (λ raw. raw ≡ raw_of bytes.now) }
     ensures taken { IfOk result (λ _. elf_refusal bytes.now ≡ None) }
+    ensures sound { IfOk result (λ _. IsSound bytes.now) }
     ensures refused { IfErr result (λ fault. fault ≢ ElfFault.NoMemory → elf_refusal bytes.now ≡ Some fault) }
 {
     if let Some(fault) = refusal_of(bytes) {

@@ -26,7 +26,7 @@ fn add_symbols(
     requires strings { strings.now ≡ section_of bytes.now section.now.link }
     requires whole { reaches_past bytes.now section.now.offset section.now.size ≡ false }
     requires small { length bytes.now ≤ 268435456 }
-    ensures { IfOk result (λ _. symbols.new.items ≡ symbols.old.items ++ symbols_in bytes.now number section.now) }
+    ensures { IfOk result (λ _. symbols.new.items ≡ symbols.old.items ++ symbols_in bytes.now (section_of bytes.now) number section.now) }
 {
     for place in 0..section.size / 16 {
         let at = section.offset as usize + SYMBOL_SIZE * place as usize;
@@ -49,7 +49,7 @@ fn add_symbols_of(
     requires number { number < header.now.shnum }
     requires sound { IsSound bytes.now }
     requires small { length bytes.now ≤ 268435456 }
-    ensures { IfOk result (λ _. symbols.new.items ≡ symbols.old.items ++ symbols_of_section bytes.now number) }
+    ensures { IfOk result (λ _. symbols.new.items ≡ symbols.old.items ++ symbols_of_section bytes.now (section_of bytes.now) number) }
 {
     let number = u32::from(number);
     let section = section_of(bytes, header, number);

@@ -3,7 +3,7 @@ ghost use Rattle.std.specs.Prelude.{◌≡◌, ◌*◌, ◌<◌, ◌≤◌, ◌+
 ghost use Rattle.elf_raw.specs.Header.{header_of};
 ghost use Rattle.elf_raw.specs.Refusal.{reaches_past, IsSound};
 ghost use Rattle.elf_raw.specs.Relocations.{relocations_in, relocations_of_section, relocations_of};
-ghost use Rattle.elf_raw.specs.Sections.{sections_of};
+ghost use Rattle.elf_raw.specs.Sections.{section_of, sections_of};
 ghost use Rattle.elf_raw.specs.Segments.{segments_of};
 
 use crate::relocation::{RELOCATION_SIZE, read_relocation};
@@ -75,7 +75,7 @@ fn add_relocations_of(
     requires number { number < header.now.shnum }
     requires sound { IsSound bytes.now }
     requires small { length bytes.now ≤ 268435456 }
-    ensures { IfOk result (λ _. relocations.new.items ≡ relocations.old.items ++ relocations_of_section bytes.now number) }
+    ensures { IfOk result (λ _. relocations.new.items ≡ relocations.old.items ++ relocations_of_section bytes.now (section_of bytes.now) number) }
 {
     let section = section_of(bytes, header, u32::from(number));
     if section.kind != RELOCATIONS {

@@ -1,5 +1,7 @@
 //! Files that are taken, read back field by field, and files that aren't.
 
+mod written;
+
 use crate::ElfFault::{BadTable, Compressed, NotElf, NotElf32Le, NotExec, NotRiscv, OtherAbi};
 use crate::{ElfFault, RawRelocation, read_raw};
 use ae_nums::Span64;
@@ -82,7 +84,7 @@ fn fault_of(alloc: Global, bytes: &[u8]) -> Option<ElfFault> {
 }
 
 #[test]
-fn reads_three_words(rt: HostRuntime) -> Result<(), Fail> {
+fn reads_the_header_and_the_segments(rt: HostRuntime) -> Result<(), Fail> {
     let alloc = rt.alloc();
     let bytes = bytes_of(alloc, &THREE_WORDS)?;
     assert!(rt; bytes.len() < 4096);
@@ -119,6 +121,19 @@ fn reads_three_words(rt: HostRuntime) -> Result<(), Fail> {
         (1, 128, 0x1_1000, 0)
     );
     assert_eq!(rt; empty.span, Span64 { from: 128, to: 128 });
+    Ok(())
+}
+
+#[test]
+fn reads_the_sections(rt: HostRuntime) -> Result<(), Fail> {
+    let alloc = rt.alloc();
+    let bytes = bytes_of(alloc, &THREE_WORDS)?;
+    assert!(rt; bytes.len() < 4096);
+    let read = read_raw(alloc, &bytes);
+    assert!(rt; read.is_ok());
+    let Ok(raw) = read else {
+        return Ok(());
+    };
     let sections = raw.sections.as_slice();
     assert_eq!(rt; sections.len(), 2);
     assert_eq!(rt; (sections[0].kind, sections[0].size), (0, 0));

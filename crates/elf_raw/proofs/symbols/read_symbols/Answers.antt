@@ -2,6 +2,7 @@ use Rattle.std.proofs.Common.{◌≡◌, ℕ, ◌++◌, sym, ap, ◌∙◌, arit
 use Rattle.std.specs.List.{flat_map, range_with_len}
 use Rattle.elf_raw.specs.declared.header.RawHeader.{RawHeader}
 use Rattle.elf_raw.specs.Header.{header_of}
+use Rattle.elf_raw.specs.Sections.{section_of}
 use Rattle.elf_raw.specs.Symbols.{symbols_of_section}
 use Rattle.elf_raw.proofs.OneMore.{flat_map_range_more}
 use Rattle.elf_raw.proofs.symbols.read_symbols.Goals as goal
@@ -11,12 +12,12 @@ loop-number-preserved c =
     let bytes = c.args.bytes.now in
     let number : ℕ = c.loop-number.number in
     c.in_ok-add_symbols_of.ensures
-    ∙ (λ i. c.loop-number.invariant i ++ symbols_of_section bytes number)
-    ∙ sym (flat_map_range_more (symbols_of_section bytes) number)
+    ∙ (λ i. c.loop-number.invariant i ++ symbols_of_section bytes (section_of bytes) number)
+    ∙ sym (flat_map_range_more (symbols_of_section bytes (section_of bytes)) number)
 
 pub returns : goal.returns
 returns c =
     let bytes = c.args.bytes.now in
     let count : c.args.header.now.shnum ≡ (header_of bytes).shnum = ap (λ (h : RawHeader). h.shnum) c.requires.header in
     let all : c.loop-number.number ≡ (header_of bytes).shnum = omega arith in
-    c.loop-number.invariant ∙ ap (λ n. flat_map (symbols_of_section bytes) (range_with_len 0 n)) all
+    c.loop-number.invariant ∙ ap (λ n. flat_map (symbols_of_section bytes (section_of bytes)) (range_with_len 0 n)) all
