@@ -1,0 +1,108 @@
+-- The program header that loads code, in a file of whose program headers none offends.
+use Rattle.std.proofs.Common.{◌≡◌, ℕ, zero, suc, ◌+◌, ◌^◌, ◌<◌, ◌≤◌, Bool, true, false, cond, List, [], ◌∷◌, length, get_or, map, None, refl, sym, ap, ◌∙◌, inl, inr, subst, arith}
+use Rattle.std.specs.Prelude.{◌⊎◌, not, ◌&&◌, ◌==◌, nat_lt}
+use Rattle.std.specs.Bool.{IsTrue}
+use Rattle.std.specs.List.{Contains, filter, list_any, position_or_len}
+use Rattle.std.proofs.lemmas.Bool.{cases_Bool, cases_lt, and_parts}
+use Rattle.std.proofs.lemmas.Bool.Decides.{nat_tests}
+use Rattle.std.proofs.lemmas.List.{get_or-map, length-map}
+use Rattle.std.proofs.lemmas.List.Elements.{All-contains}
+use Rattle.std.proofs.lemmas.List.Folds.{Any-from_list_any}
+use Rattle.std.proofs.lemmas.List.Sorted.{Contains-permutation}
+use Rattle.std.proofs.lemmas.List.Sums.{fails_before_first, passes_at_first}
+use Rattle.elf_raw.specs.declared.segment.RawSegment.{RawSegment}
+use Rattle.elf_raw.specs.Header.{header_of}
+use Rattle.elf_raw.specs.Refusal.{IsSound}
+use Rattle.elf_raw.specs.Segments.{segments_of}
+use Rattle.rv_code.specs.declared.image.Region.{Region}
+use Rattle.rv_code.specs.Addresses.{stack_start, tracer_start}
+use Rattle.ae_lists.proofs.Ordered.{ordered-IsPermutation}
+use Rattle.elf_image.specs.CodeWords.{code_load}
+use Rattle.elf_image.specs.Loads.{is_load, is_code_load, has_note, load_end, piece_of, bad_segment, region_of, regions_of}
+use Rattle.elf_image.proofs.GoodLoads.{good}
+use Rattle.elf_image.proofs.HeaderRows.{header_row, headers_number}
+use Rattle.elf_image.proofs.RegionsKept.{IsWholeLoad, whole_loads, piece_length, allowed_cases}
+
+-- where one passes, the first that does stands within the list
+pub first_within : {X : Type 0} (p : X → Bool) (xs : List X) → list_any p xs ≡ true → position_or_len p xs < length xs
+first_within p xs any =
+    let (k, x, inside, here, passes) = Any-from_list_any p xs any in
+    elim (cases_lt k (position_or_len p xs)) [
+      | inl before ↦
+          let fails : p (get_or xs k x) ≡ false = fails_before_first p xs k x before in
+          let holds : p (get_or xs k x) ≡ true = ap p here ∙ passes in
+          absurd (cc)
+      | inr not_before ↦ omega arith
+    ]
+
+-- what passes a test is among those that do
+Contains-filter : {X : Type 0} (p : X → Bool) (xs : List X) (x : X) → Contains xs x → p x ≡ true → Contains (filter p xs) x
+Contains-filter p [] x (k, inside, here) passes = absurd (omega arith)
+Contains-filter p (y ∷ ys) x (zero, inside, here) passes =
+    subst (λ b. Contains (cond b (y ∷ filter p ys) (filter p ys)) x) (sym (ap p here ∙ passes)) (0, omega arith, here)
+Contains-filter p (y ∷ ys) x (suc k, inside, here) passes =
+    let (j, within, there) = Contains-filter p ys x (k, omega arith, here) passes in
+    elim (cases_Bool (p y)) [
+      | inl first ↦ subst (λ b. Contains (cond b (y ∷ filter p ys) (filter p ys)) x) (sym first) (suc j, omega arith, there)
+      | inr other ↦ subst (λ b. Contains (cond b (y ∷ filter p ys) (filter p ys)) x) (sym other) (j, within, there)
+    ]
+
+Contains-map : {X Y : Type 0} (f : X → Y) (xs : List X) (x : X) → Contains xs x → Contains (map f xs) (f x)
+Contains-map f xs x (k, inside, here) = (k, omega (arith, length-map xs f), get_or-map f xs k x (f x) inside ∙ ap f here)
+
+-- the load of code is one of the loads, and its bytes and addresses are
+pub record IsCodeLoad (bytes : List ℕ) (load : RawSegment) : Type 0 where
+  pub code : is_code_load load ≡ true
+  pub held : Contains (regions_of bytes) (region_of bytes load)
+  pub whole : load.filesz ≤ load.memsz
+  pub within : 0 < load.filesz → load.offset + load.filesz ≤ length bytes
+  pub piece : length (piece_of bytes load) ≡ load.filesz
+  pub below : load_end load ≤ 2 ^ 32
+
+code_place : (bytes : List ℕ) → bad_segment bytes ≡ None → position_or_len is_code_load (segments_of bytes) < length (segments_of bytes)
+code_place bytes none = first_within is_code_load (segments_of bytes) (good bytes none).code
+
+code_row : (bytes : List ℕ) (d : RawSegment) → bad_segment bytes ≡ None → get_or (segments_of bytes) (position_or_len is_code_load (segments_of bytes)) d ≡ code_load bytes
+code_row bytes d none =
+    let place : position_or_len is_code_load (segments_of bytes) < (header_of bytes).phnum = omega (arith, code_place bytes none, headers_number bytes) in
+    header_row bytes (position_or_len is_code_load (segments_of bytes)) d place
+
+code_is : (bytes : List ℕ) → bad_segment bytes ≡ None → is_code_load (code_load bytes) ≡ true
+code_is bytes none =
+    ap is_code_load (sym (code_row bytes (code_load bytes) none))
+    ∙ passes_at_first is_code_load (segments_of bytes) (code_load bytes) (code_place bytes none)
+
+code_among : (bytes : List ℕ) → bad_segment bytes ≡ None → Contains (filter is_load (segments_of bytes)) (code_load bytes)
+code_among bytes none =
+    Contains-filter is_load (segments_of bytes) (code_load bytes)
+    (position_or_len is_code_load (segments_of bytes), code_place bytes none, code_row bytes (code_load bytes) none)
+    (and_parts _ _ (code_is bytes none)).0
+
+code_held : (bytes : List ℕ) → bad_segment bytes ≡ None → Contains (regions_of bytes) (region_of bytes (code_load bytes))
+code_held bytes none =
+    Contains-permutation (map (region_of bytes) (filter is_load (segments_of bytes))) (regions_of bytes) (region_of bytes (code_load bytes))
+    (ordered-IsPermutation (λ (region : Region). region.start) (map (region_of bytes) (filter is_load (segments_of bytes))))
+    (Contains-map (region_of bytes) (filter is_load (segments_of bytes)) (code_load bytes) (code_among bytes none))
+
+in_file : (whole offset size : ℕ) → (not (size == 0) && nat_lt whole (offset + size)) ≡ false → 0 < size → offset + size ≤ whole
+in_file whole offset size within some = grind (arith, nat_tests)
+
+in_space : (noted : Bool) (start end : ℕ) → (end ≤ stack_start) ⊎ (IsTrue noted × (tracer_start ≤ start) × (end ≤ 2 ^ 32)) → end ≤ 2 ^ 32
+in_space noted start end (inl below) = omega arith
+in_space noted start end (inr above) = above.2
+
+pub code_load_kept : (bytes : List ℕ) → IsSound bytes → bad_segment bytes ≡ None → IsCodeLoad bytes (code_load bytes)
+code_load_kept bytes sound none =
+    let load : RawSegment = code_load bytes in
+    let kept : IsWholeLoad bytes (has_note (segments_of bytes)) load =
+    All-contains (IsWholeLoad bytes (has_note (segments_of bytes))) (filter is_load (segments_of bytes)) load (whole_loads bytes sound none) (code_among bytes none)
+    in
+    record {
+      code = code_is bytes none;
+      held = code_held bytes none;
+      whole = kept.good.whole;
+      within = in_file (length bytes) load.offset load.filesz kept.within;
+      piece = piece_length bytes load kept.within;
+      below = in_space (has_note (segments_of bytes)) load.vaddr (load_end load)
+          (allowed_cases (has_note (segments_of bytes)) load (load_end load) kept.good.allowed refl);
+    }

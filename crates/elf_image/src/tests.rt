@@ -1,0 +1,5 @@
+//! Whole files, in tables.
+
+mod accepting;
+mod code;
+mod segments;
