@@ -1,4 +1,4 @@
--- What a writer of trace lines writes between two moments, and between the second and a third, it writes between the
+-- What a writer of lines writes between two moments, and between the second and a third, it writes between the
 -- first and the third.
 use Rattle.std.proofs.Common.{◌≡◌, ℕ, ◌+◌, ◌≤◌, List, [], ◌++◌, length, take, drop, Bool, true, false, Option, None, Some, refl, sym, ap, ◌∙◌, subst, arith, append_assoc, length-append, length-drop, take-append-drop}
 use Rattle.std.proofs.lemmas.List.{append-nil, append_cancel_left, take-append-le, drop-append-le}
@@ -8,7 +8,7 @@ use Rattle.std.specs.Io.KnownBytes.{append_known}
 use Rattle.ae_ports.specs.Content.{Appends, AppendsFront}
 use Rattle.ae_nums.specs.declared.item.Item.{Item}
 use Rattle.ae_nums.specs.Trace.{line_of, trace_text}
-use Rattle.ae_nums.specs.Writer.{Gathered, WroteAll, WroteFront, WroteNothing, WroteAs, Wrote}
+use Rattle.ae_nums.specs.Writer.{Gathered, WroteAll, WroteFront, WroteNothing, WroteAs, Wrote, state_of}
 
 pub append_known-nil : (known : Option (List ℕ)) → known ≡ append_known known []
 append_known-nil None = refl
@@ -103,7 +103,7 @@ joins true false c one two three first second before after = absurd before
 joins true true false one two three first second before after = absurd after
 joins true true true one two three first second before after = nothing_nothing one two three before after
 
-stays : (a : Bool) (told : Option (List ℕ)) (faults : ℕ) (waiting : List ℕ) → Wrote (record { told = told; faults = faults; waiting = waiting; broken = a }) (record { told = told; faults = faults; waiting = waiting; broken = a }) []
+stays : (a : Bool) (told : Option (List ℕ)) (faults : ℕ) (waiting : List ℕ) → WroteAs a a (state_of told faults waiting a) (state_of told faults waiting a) []
 stays false told faults waiting = record {
   whole = ap (append_known told) (sym (append-nil waiting));
   front = front_none told (waiting ++ []);
@@ -113,9 +113,15 @@ stays true told faults waiting = record { told = refl; same = refl }
 
 -- between a moment and itself nothing was written
 pub wrote_nothing : (writer : Gathered) → Wrote writer writer []
-wrote_nothing writer = stays writer.broken writer.told writer.faults writer.waiting
+wrote_nothing writer = record { written = stays writer.broken writer.told writer.faults writer.waiting }
+
+-- a text, and then another
+pub wrote_both : (one two three : Gathered) (first second : List ℕ) → Wrote one two first → Wrote two three second → Wrote one three (first ++ second)
+wrote_both one two three first second before after = record {
+  written = joins one.broken two.broken three.broken one two three first second before.written after.written;
+}
 
 -- the lines of some items, and then those of others
 pub wrote_lines : (one two three : Gathered) (first second : List Item) → Wrote one two (trace_text first) → Wrote two three (trace_text second) → Wrote one three (trace_text (first ++ second))
 wrote_lines one two three first second before after =
-    subst (Wrote one three) (sym (flat_map-append line_of first second)) (joins one.broken two.broken three.broken one two three (trace_text first) (trace_text second) before after)
+    subst (Wrote one three) (sym (flat_map-append line_of first second)) (wrote_both one two three (trace_text first) (trace_text second) before after)

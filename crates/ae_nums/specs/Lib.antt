@@ -4,4 +4,5 @@ pub mod Trace
 pub mod Taken
 pub mod Writer
 pub mod Gathering
+pub mod Lines
 pub mod Spans

@@ -1,4 +1,4 @@
--- What a writer of trace lines does: it gathers lines, and hands them to its sink when there are many of them.
+-- What a writer of lines does: it gathers what is written, and hands it to its sink when there is much of it.
 use Rattle.std.specs.Prelude.{◌≡◌, ℕ, ◌≤◌, List, ◌++◌, Bool, true, false, Option}
 use Rattle.std.specs.Io.KnownBytes.{append_known}
 use Rattle.ae_ports.specs.Content.{AppendsFront}
@@ -9,7 +9,7 @@ pub record Gathered : Type 0 where
   -- what its sink has taken, where told, and the sink's count of faults
   pub told : Option (List ℕ)
   pub faults : ℕ
-  -- lines that the sink hasn't got yet
+  -- what was written and the sink hasn't got yet
   pub waiting : List ℕ
   -- the sink has failed, and nothing goes to it any more
   pub broken : Bool
@@ -35,6 +35,7 @@ pub record WroteNothing (before now : Gathered) : Type 0 where
   pub told : now.told ≡ before.told
   pub same : now.faults ≡ before.faults
 
+-- what was written, by whether the sink had failed before and whether it has failed now
 abbrev pub WroteAs : (broken_before broken_now : Bool) → (before now : Gathered) → (text : List ℕ) → Type 0
 WroteAs false false before now text = WroteAll before now text
 WroteAs false true before now text = WroteFront before now text
@@ -42,8 +43,8 @@ WroteAs true true before now text = WroteNothing before now
 WroteAs true false before now text = ⊥
 
 -- a text was written between two moments, as far as the sink didn't fail
-abbrev pub Wrote : (before now : Gathered) → (text : List ℕ) → Type 0
-Wrote before now text = WroteAs before.broken now.broken before now text
+pub record Wrote (before now : Gathered) (text : List ℕ) : Type 0 where
+  pub written : WroteAs before.broken now.broken before now text
 
 -- the same loan of a sink whose rest is kept
 pub record SameSink {N : Type 0} (lent lent_now : N) (sink_rest : Type 0) : Type 0 where

@@ -20,7 +20,7 @@ pub use taker::Taker;
 pub use text::Text;
 pub use trace::item_line;
 pub use words::{put_u32, take_u32};
-pub use writer::TraceWriter;
+pub use writer::LineWriter;
 
 #[cfg(test)]
 mod tests;

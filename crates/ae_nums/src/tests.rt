@@ -5,7 +5,7 @@ ghost use Rattle.ae_ports.specs.Files.{SameOthers, Replaces};
 ghost use Rattle.ae_nums.specs.Trace.{trace_text};
 
 use crate::{
-    Item, Taker, Text, TraceWriter, decimal, hex8, item_line, put_u32, read_decimal, take_u32,
+    Item, LineWriter, Taker, Text, decimal, hex8, item_line, put_u32, read_decimal, take_u32,
 };
 use ae_ports::{Failed, MemorySink, MemoryStore, Sink, Store, StoreSink, Word};
 use std::alloc::{AllocError, Global};
@@ -187,7 +187,7 @@ fn lines_to<K: Sink>(sink: &mut K, items: &[Item]) -> Result<(), Failed>
     ensures cause { HasCause (K.faults sink.old) (K.faults sink.new) result }
     ensures rest { K.same_rest sink.old sink.new }
 {
-    let mut lines = TraceWriter::new(sink);
+    let mut lines = LineWriter::new(sink);
     let handed = hand_all(&mut lines, items);
     let written = lines.finish();
     handed?;
@@ -278,11 +278,30 @@ fn stops_at_a_fault(rt: HostRuntime) -> Result<(), Fail> {
     let alloc = rt.alloc();
     let items = nine_hundred(alloc)?;
     let mut sink = MemorySink::new(alloc, [1].to_vec(alloc)?);
-    let mut lines = TraceWriter::new(&mut sink);
+    let mut lines = LineWriter::new(&mut sink);
     assert!(rt; hand_all(&mut lines, &items).is_err());
     assert!(rt; hand_all(&mut lines, &items).is_ok());
     assert!(rt; lines.finish().is_err());
     assert!(rt; lines.finish().is_err());
     assert_eq!(rt; sink.taken().len(), 4094);
+    Ok(())
+}
+
+#[test]
+fn writes_texts(rt: HostRuntime) -> Result<(), Fail> {
+    let alloc = rt.alloc();
+    for (fails, size) in [(0, 0), (1, 1), (2, 4097), (3, 4108)] {
+        let mut sink = MemorySink::new(alloc, [fails].to_vec(alloc)?);
+        let mut lines = LineWriter::new(&mut sink);
+        let one = lines.write(b"a");
+        let full = lines.write(&[b'b'; 4096]);
+        let item = lines.take(THREE[0]);
+        let finished = lines.finish();
+        assert!(rt; one.is_ok());
+        assert_eq!(rt; full.is_ok(), fails != 0, "at {fails}");
+        assert_eq!(rt; item.is_ok(), fails != 1, "at {fails}");
+        assert_eq!(rt; finished.is_ok(), fails == 3, "at {fails}");
+        assert_eq!(rt; sink.taken().len(), size, "at {fails}");
+    }
     Ok(())
 }

@@ -3,7 +3,7 @@ use Rattle.std.proofs.Common.{◌≢◌, ℕ, ◌≤◌, ◌<◌, List, Option, 
 use Rattle.ae_ports.specs.Fault.{HasRisen}
 use Rattle.rv_code.specs.declared.ending.Ending.{Ending}
 use Rattle.ae_top.specs.declared.status.Status.{Status}
-use Rattle.ae_top.specs.declared.status.Status.TheVariants.{Done, Usage, Missing, InputFault, OutFault, ErrFault, FuelSpent, Faulted, NotYet, Memory}
+use Rattle.ae_top.specs.declared.status.Status.TheVariants.{Done, Usage, Missing, Refused, InputFault, OutFault, ErrFault, FuelSpent, Faulted, Memory}
 use Rattle.ae_top.specs.StatusLines.{status_line, Gets, LineBehind}
 
 pub line_behind : (words : List (List ℕ)) (status : Status) (middle now : Option (List ℕ)) (before after : ℕ)
@@ -18,7 +18,7 @@ line_behind words InputFault middle now before after not_done unended gets = get
 line_behind words OutFault middle now before after not_done unended gets = gets
 line_behind words ErrFault middle now before after not_done unended gets = gets
 line_behind words (FuelSpent steps) middle now before after not_done unended gets = gets
-line_behind words NotYet middle now before after not_done unended gets = gets
+line_behind words (Refused refusal) middle now before after not_done unended gets = gets
 line_behind words Memory middle now before after not_done unended gets = gets
 
 -- a count that rose and then doesn't fall has risen

@@ -1,8 +1,6 @@
 pub mod Appended
 pub mod Fronts
 pub mod Pieces
-pub mod RowImage
-pub mod Spelling
 pub mod TooLong
 pub mod Ran
 pub mod Kept
@@ -10,4 +8,5 @@ pub mod Traced
 pub mod KeptPlain
 pub mod Named
 pub mod Behind
+pub mod Printed
 pub mod KeptTop

@@ -10,6 +10,7 @@ use Rattle.ae_words.specs.Numbers.{short_positive_number}
 use Rattle.ae_words.specs.Files.{is_file_word, are_file_words}
 use Rattle.ae_words.specs.Options.{no_options, run_options, plain_options}
 use Rattle.ae_words.specs.Command.{run_with, run_of, plain_of, rewrite_of, regenerate_of, profile_of, kind_of, print_of, sample_of, help_of}
+use Rattle.ae_top.specs.declared.task.Kind.{Kind}
 use Rattle.ae_top.specs.declared.task.Task.{Task}
 use Rattle.ae_top.specs.Task.{task_of, task_in}
 
@@ -17,6 +18,7 @@ use Rattle.ae_top.specs.Task.{task_of, task_in}
 abbrev pub Within : ℕ → Task → Type 0
 Within count (Task.Run prog fuel) = prog < count
 Within count (Task.Plain prog trace fuel) = (prog < count) × (trace < count)
+Within count (Task.Print kind file) = file < count
 
 -- the same of the task of a command
 abbrev Names : ℕ → Option Command → Type 0
@@ -85,17 +87,17 @@ profile_of_named count (schema ∷ []) = tt
 profile_of_named count (schema ∷ events ∷ []) = where_so count (are_file_words (schema ∷ events ∷ [])) (Some (Profile 1 2)) tt
 profile_of_named count (schema ∷ events ∷ more ∷ rest) = tt
 
-kind_of_named : (count : ℕ) (kind : List ℕ) → Names count (kind_of kind)
-kind_of_named count kind =
-    either count (bytes_eq kind (codes "elf")) _ _ tt (either count (bytes_eq kind (codes "code")) _ _ tt (either count (bytes_eq kind (codes "graph")) _ _ tt (either count (bytes_eq kind (codes "needs")) _ _ tt (either count (bytes_eq kind (codes "slice")) _ _ tt (either count (bytes_eq kind (codes "schema")) _ _ tt (tt))))))
+kind_of_named : (count : ℕ) (kind : List ℕ) → 2 < count → Names count (kind_of kind)
+kind_of_named count kind h =
+    either count (bytes_eq kind (codes "elf")) _ _ h (either count (bytes_eq kind (codes "code")) _ _ h (either count (bytes_eq kind (codes "graph")) _ _ tt (either count (bytes_eq kind (codes "needs")) _ _ tt (either count (bytes_eq kind (codes "slice")) _ _ tt (either count (bytes_eq kind (codes "schema")) _ _ tt (tt))))))
 
-print_of_named : (count : ℕ) (words : List (List ℕ)) → Names count (print_of words)
-print_of_named count [] = tt
-print_of_named count (kind ∷ []) = tt
-print_of_named count (kind ∷ file ∷ []) = where_so count (is_file_word file) (kind_of kind) (kind_of_named count kind)
-print_of_named count (kind ∷ schema ∷ events ∷ []) =
+print_of_named : (count : ℕ) (words : List (List ℕ)) → length words < count → Names count (print_of words)
+print_of_named count [] h = tt
+print_of_named count (kind ∷ []) h = tt
+print_of_named count (kind ∷ file ∷ []) h = where_so count (is_file_word file) (kind_of kind) (kind_of_named count kind h)
+print_of_named count (kind ∷ schema ∷ events ∷ []) h =
     where_so count (bytes_eq kind (codes "events") && are_file_words (schema ∷ events ∷ [])) (Some (PrintEvents 2 3)) tt
-print_of_named count (kind ∷ schema ∷ events ∷ more ∷ rest) = tt
+print_of_named count (kind ∷ schema ∷ events ∷ more ∷ rest) h = tt
 
 number_named : (count : ℕ) (number : Option ℕ) → Names count (option_map (λ n. Sample n 2 3 4) number)
 number_named count None = tt
@@ -126,7 +128,7 @@ named (name ∷ words) =
     (either count (bytes_eq name (codes "rewrite")) _ _ (rewrite_of_named count words)
     (either count (bytes_eq name (codes "regenerate")) _ _ (regenerate_of_named count words)
     (either count (bytes_eq name (codes "profile")) _ _ (profile_of_named count words)
-    (either count (bytes_eq name (codes "print")) _ _ (print_of_named count words)
+    (either count (bytes_eq name (codes "print")) _ _ (print_of_named count words fewer)
     (either count (bytes_eq name (codes "sample")) _ _ (sample_of_named count words)
     (either count (bytes_eq name (codes "help")) _ _ (help_of_named count words) tt)))))))
 
@@ -136,3 +138,6 @@ run_named_word words prog fuel is = subst (λ (task : Option Task). MatchOption 
 pub plain_named_words : (words : List (List ℕ)) (prog trace fuel : ℕ) → task_in words ≡ Some (Task.Plain prog trace fuel)
     → (prog < length words) × (trace < length words)
 plain_named_words words prog trace fuel is = subst (λ (task : Option Task). MatchOption task ⊤ (Within (length words))) is (named words)
+
+pub print_named_word : (words : List (List ℕ)) (kind : Kind) (file : ℕ) → task_in words ≡ Some (Task.Print kind file) → file < length words
+print_named_word words kind file is = subst (λ (task : Option Task). MatchOption task ⊤ (Within (length words))) is (named words)

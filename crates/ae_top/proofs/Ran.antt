@@ -13,7 +13,7 @@ use Rattle.rv_machine.specs.Outcomes.{outcome_of, Reaches, FailsBefore, RunComes
 use Rattle.rv_machine.specs.Ports.{Told, Passes}
 use Rattle.rv_machine.specs.Run.{Run}
 use Rattle.ae_top.specs.declared.status.Status.{Status}
-use Rattle.ae_top.specs.declared.status.Status.TheVariants.{Done, Usage, Missing, InputFault, OutFault, ErrFault, FuelSpent, Faulted, NotYet, Memory}
+use Rattle.ae_top.specs.declared.status.Status.TheVariants.{Done, Usage, Missing, Refused, InputFault, OutFault, ErrFault, FuelSpent, Faulted, Memory}
 use Rattle.ae_top.specs.EndingLines.{ending_line, line_of_end}
 use Rattle.ae_top.specs.Running.{GivesAll, GivesFronts, RanAs, ShowsEnd, Finishes, is_exit, status_of}
 use Rattle.ae_top.specs.World.{Streams}
@@ -90,7 +90,7 @@ ran_as r items told mid took (Ok (Ended ending)) held fuel Status.StoreFault now
 ran_as r items told mid took (Ok (Ended ending)) held fuel InputFault now ran finishes = absurd finishes
 ran_as r items told mid took (Ok (Ended ending)) held fuel OutFault now ran finishes = absurd finishes
 ran_as r items told mid took (Ok (Ended ending)) held fuel (FuelSpent steps) now ran finishes = absurd finishes
-ran_as r items told mid took (Ok (Ended ending)) held fuel NotYet now ran finishes = absurd finishes
+ran_as r items told mid took (Ok (Ended ending)) held fuel (Refused refusal) now ran finishes = absurd finishes
 ran_as r items told mid took (Ok (Ended ending)) held fuel Memory now ran finishes = absurd finishes
 ran_as r items told mid took (Ok Spent) held fuel (FuelSpent steps) now ran finishes =
     let is = spent_as r.ending ran.0 in
@@ -103,7 +103,7 @@ ran_as r items told mid took (Ok Spent) held fuel (Missing word) now ran finishe
 ran_as r items told mid took (Ok Spent) held fuel Status.StoreFault now ran finishes = absurd finishes
 ran_as r items told mid took (Ok Spent) held fuel InputFault now ran finishes = absurd finishes
 ran_as r items told mid took (Ok Spent) held fuel OutFault now ran finishes = absurd finishes
-ran_as r items told mid took (Ok Spent) held fuel NotYet now ran finishes = absurd finishes
+ran_as r items told mid took (Ok Spent) held fuel (Refused refusal) now ran finishes = absurd finishes
 ran_as r items told mid took (Ok Spent) held fuel Memory now ran finishes = absurd finishes
 ran_as r items told mid took (Err fault) held fuel status now ran finishes =
     subst (λ s. RanAs s fuel r (streams_of told told.err) (streams_of mid now)) (sym finishes.0)
@@ -111,20 +111,20 @@ ran_as r items told mid took (Err fault) held fuel status now ran finishes =
 
 -- what is shown whatever is told
 
-shown_fault : (fault : MachineFault) (before now : Option (List ℕ)) → (shown : List ℕ) × Appends before now shown → ShowsEnd (status_of fault) before now
-shown_fault MachineFault.InputFault before now shown = shown
-shown_fault MachineFault.OutFault before now shown = shown
-shown_fault MachineFault.ErrFault before now shown = shown
-shown_fault MachineFault.EventFault before now shown = shown
+shown_fault : (fault : MachineFault) (fuel : ℕ) (before now : Option (List ℕ)) → (shown : List ℕ) × Appends before now shown → ShowsEnd (status_of fault) fuel before now
+shown_fault MachineFault.InputFault fuel before now shown = shown
+shown_fault MachineFault.OutFault fuel before now shown = shown
+shown_fault MachineFault.ErrFault fuel before now shown = shown
+shown_fault MachineFault.EventFault fuel before now shown = shown
 
 pub shows_end : (told mid : Told) (answer : Result Outcome MachineFault) (fuel : ℕ) (status : Status) (now : Option (List ℕ))
-    → Passes told mid → Finishes answer fuel status mid.err now → ShowsEnd status told.err now
+    → Passes told mid → Finishes answer fuel status mid.err now → ShowsEnd status fuel told.err now
 shows_end told mid (Ok (Ended ending)) fuel Done now passes finishes =
     let line = piece_behind told.err mid.err now passes.0.err (ending_line ending) passes.1.err finishes.2 in
     (passes.0.err, finishes.0, subst (λ e. Appends told.err now (passes.0.err ++ ending_line e)) finishes.1 line)
 shows_end told mid (Ok (Ended ending)) fuel (Faulted shown) now passes finishes =
     let line = piece_behind told.err mid.err now passes.0.err (ending_line ending) passes.1.err finishes.2 in
-    (passes.0.err, subst (λ e. Appends told.err now (passes.0.err ++ ending_line e)) (sym finishes.0) line)
+    (ap is_exit finishes.0 ∙ finishes.1, (passes.0.err, subst (λ e. Appends told.err now (passes.0.err ++ ending_line e)) (sym finishes.0) line))
 shows_end told mid (Ok (Ended ending)) fuel ErrFault now passes finishes =
     (passes.0.err ++ take finishes.0 (ending_line ending), piece_behind told.err mid.err now passes.0.err (take finishes.0 (ending_line ending)) passes.1.err finishes.2)
 shows_end told mid (Ok (Ended ending)) fuel Usage now passes finishes = absurd finishes
@@ -133,9 +133,9 @@ shows_end told mid (Ok (Ended ending)) fuel Status.StoreFault now passes finishe
 shows_end told mid (Ok (Ended ending)) fuel InputFault now passes finishes = absurd finishes
 shows_end told mid (Ok (Ended ending)) fuel OutFault now passes finishes = absurd finishes
 shows_end told mid (Ok (Ended ending)) fuel (FuelSpent steps) now passes finishes = absurd finishes
-shows_end told mid (Ok (Ended ending)) fuel NotYet now passes finishes = absurd finishes
+shows_end told mid (Ok (Ended ending)) fuel (Refused refusal) now passes finishes = absurd finishes
 shows_end told mid (Ok (Ended ending)) fuel Memory now passes finishes = absurd finishes
-shows_end told mid (Ok Spent) fuel (FuelSpent steps) now passes finishes = (passes.0.err, finishes.1 ∙ passes.1.err)
+shows_end told mid (Ok Spent) fuel (FuelSpent steps) now passes finishes = (finishes.0, (passes.0.err, finishes.1 ∙ passes.1.err))
 shows_end told mid (Ok Spent) fuel Done now passes finishes = absurd finishes
 shows_end told mid (Ok Spent) fuel (Faulted shown) now passes finishes = absurd finishes
 shows_end told mid (Ok Spent) fuel ErrFault now passes finishes = absurd finishes
@@ -144,7 +144,7 @@ shows_end told mid (Ok Spent) fuel (Missing word) now passes finishes = absurd f
 shows_end told mid (Ok Spent) fuel Status.StoreFault now passes finishes = absurd finishes
 shows_end told mid (Ok Spent) fuel InputFault now passes finishes = absurd finishes
 shows_end told mid (Ok Spent) fuel OutFault now passes finishes = absurd finishes
-shows_end told mid (Ok Spent) fuel NotYet now passes finishes = absurd finishes
+shows_end told mid (Ok Spent) fuel (Refused refusal) now passes finishes = absurd finishes
 shows_end told mid (Ok Spent) fuel Memory now passes finishes = absurd finishes
 shows_end told mid (Err fault) fuel status now passes finishes =
-    subst (λ s. ShowsEnd s told.err now) (sym finishes.0) (shown_fault fault told.err now (passes.0.err, finishes.1 ∙ passes.1.err))
+    subst (λ s. ShowsEnd s fuel told.err now) (sym finishes.0) (shown_fault fault fuel told.err now (passes.0.err, finishes.1 ∙ passes.1.err))

@@ -1,15 +1,13 @@
 -- What a traced run leaves, once the writer of its lines has finished: what the sink of the lines got, and whose fault a
 -- fault is.
-use Rattle.std.proofs.Common.{◌≡◌, ◌≢◌, ◌⊎◌, ℕ, ◌≤◌, List, [], ◌++◌, length, take, drop, Bool, true, false, Option, Result, Ok, Err, IfOk, inl, inr, sym, ap, ◌∙◌, subst, arith, rules, take-append-drop}
+use Rattle.std.proofs.Common.{◌≡◌, ◌≢◌, ◌⊎◌, ℕ, ◌≤◌, List, [], length, take, true, false, Option, Result, Ok, Err, IfOk, inl, inr, sym, ap, ◌∙◌, subst, arith, rules}
 use Rattle.std.specs.Prelude.{⊤, OnOk, OnErr, IsErrOf}
 use Rattle.std.proofs.Math.Seq.{take-length}
-use Rattle.std.proofs.lemmas.List.{append-nil}
-use Rattle.std.proofs.lemmas.Grind.{flat_map-append}
 use Rattle.std.specs.Io.KnownBytes.{append_known}
 use Rattle.ae_nums.specs.declared.item.Item.{Item}
-use Rattle.ae_nums.specs.Trace.{line_of, trace_text}
-use Rattle.ae_nums.specs.Writer.{Gathered, WroteAs, Wrote}
-use Rattle.ae_nums.specs.Gathering.{append_known-nil, wrote_lines}
+use Rattle.ae_nums.specs.Trace.{trace_text}
+use Rattle.ae_nums.specs.Writer.{Gathered, Wrote}
+use Rattle.ae_nums.proofs.Finished.{finished, later, front_of_text, front_of_lines, all_of_text, risen_after}
 use Rattle.ae_ports.specs.Content.{Appends, AppendsFront}
 use Rattle.ae_ports.specs.Fault.{HasRisen}
 use Rattle.ae_ports.specs.declared.failed.Failed.{Failed}
@@ -21,67 +19,32 @@ use Rattle.rv_machine.specs.Outcomes.{RunComesTo}
 use Rattle.rv_machine.specs.Ports.{Told, Counts, HasCauses, Passes}
 use Rattle.rv_machine.specs.Run.{Run}
 use Rattle.ae_top.specs.declared.status.Status.{Status}
-use Rattle.ae_top.specs.declared.status.Status.TheVariants.{Done, Usage, Missing, InputFault, OutFault, ErrFault, FuelSpent, Faulted, NotYet, Memory}
+use Rattle.ae_top.specs.declared.status.Status.TheVariants.{Done, Usage, Missing, Refused, InputFault, OutFault, ErrFault, FuelSpent, Faulted, Memory}
 use Rattle.ae_top.specs.Plain.{TraceGot, settled}
 use Rattle.ae_top.specs.Running.{Finishes, status_of}
 use Rattle.ae_top.specs.World.{HasStreamCauses}
-use Rattle.ae_top.proofs.Pieces.{front_of_more, whole_front}
-
--- the finish of a writer adds no line
-finished : (begun mid now : Gathered) (items : List Item) → Wrote begun mid (trace_text items) → Wrote mid now [] → Wrote begun now (trace_text items)
-finished begun mid now items taken ended =
-    subst (λ (l : List Item). Wrote begun now (trace_text l)) (append-nil items) (wrote_lines begun mid now items [] taken ended)
-
-front_by : (a b : Bool) (begun now : Gathered) (text : List ℕ) → a ≡ false → WroteAs a b begun now text → AppendsFront begun.told now.told (begun.waiting ++ text)
-front_by false false begun now text whole wrote = wrote.front
-front_by false true begun now text whole wrote = wrote.front
-front_by true b begun now text whole wrote = absurd (cc)
-
-all_by : (a b : Bool) (begun now : Gathered) (text : List ℕ) → a ≡ false → b ≡ false → WroteAs a b begun now text → append_known now.told now.waiting ≡ append_known begun.told (begun.waiting ++ text)
-all_by false false begun now text whole unbroken wrote = wrote.whole
-all_by false true begun now text whole unbroken wrote = absurd (cc)
-all_by true b begun now text whole unbroken wrote = absurd (cc)
-
-risen_by : (a b : Bool) (begun now : Gathered) (text : List ℕ) → a ≡ false → b ≡ true → WroteAs a b begun now text → HasRisen begun.faults now.faults
-risen_by false false begun now text whole broken wrote = absurd (cc)
-risen_by false true begun now text whole broken wrote = wrote.risen
-risen_by true b begun now text whole broken wrote = absurd (cc)
-
-later_by : (a b : Bool) (begun now : Gathered) (text : List ℕ) → WroteAs a b begun now text → begun.faults ≤ now.faults
-later_by false false begun now text wrote = omega (arith, wrote.same)
-later_by false true begun now text wrote = wrote.later
-later_by true false begun now text wrote = absurd wrote
-later_by true true begun now text wrote = omega (arith, wrote.same)
+use Rattle.ae_top.proofs.Pieces.{whole_front}
 
 -- the writers of a traced run: when it began, after the run, and after the finish
 module _ (begun mid now : Gathered) (empty : begun.waiting ≡ []) (whole : begun.broken ≡ false) (ended : Wrote mid now []) where
   -- where the first of the items were taken, the sink has a front of the lines of all
-  front_of_lines : (items : List Item) (count : ℕ) → Wrote begun mid (trace_text (take count items)) → AppendsFront begun.told now.told (trace_text items)
-  front_of_lines items count taken =
-      let some = finished begun mid now (take count items) taken ended in
-      let front = front_by begun.broken now.broken begun now (trace_text (take count items)) whole some in
-      let of_taken = subst (λ (waiting : List ℕ). AppendsFront begun.told now.told (waiting ++ trace_text (take count items))) empty front in
-      let split = sym (flat_map-append line_of (take count items) (drop count items)) ∙ ap trace_text (take-append-drop count items) in
-      subst (AppendsFront begun.told now.told) split (front_of_more begun.told now.told (trace_text (take count items)) (trace_text (drop count items)) of_taken)
+  front_of_some : (items : List Item) (count : ℕ) → Wrote begun mid (trace_text (take count items)) → AppendsFront begun.told now.told (trace_text items)
+  front_of_some items count taken =
+      front_of_lines begun now items count empty whole (finished begun mid now (trace_text (take count items)) taken ended)
 
   -- and where all were taken
   front_of_all : (items : List Item) → Wrote begun mid (trace_text items) → AppendsFront begun.told now.told (trace_text items)
-  front_of_all items taken =
-      let front = front_by begun.broken now.broken begun now (trace_text items) whole (finished begun mid now items taken ended) in
-      subst (λ (waiting : List ℕ). AppendsFront begun.told now.told (waiting ++ trace_text items)) empty front
+  front_of_all items taken = front_of_text begun now (trace_text items) empty whole (finished begun mid now (trace_text items) taken ended)
 
   -- and where the finish didn't fail, the sink has all of them
   all_of_all : (items : List Item) → now.broken ≡ false → now.waiting ≡ [] → Wrote begun mid (trace_text items) → Appends begun.told now.told (trace_text items)
   all_of_all items unbroken emptied taken =
-      append_known-nil now.told
-      ∙ ap (append_known now.told) (sym emptied)
-      ∙ all_by begun.broken now.broken begun now (trace_text items) whole unbroken (finished begun mid now items taken ended)
-      ∙ ap (λ (waiting : List ℕ). append_known begun.told (waiting ++ trace_text items)) empty
+      all_of_text begun now (trace_text items) empty whole (finished begun mid now (trace_text items) taken ended) unbroken emptied
 
   -- a finish that failed shows in the sink's count
   risen_at_end : (items : List Item) → now.broken ≡ true → Wrote begun mid (trace_text items) → HasRisen begun.faults now.faults
   risen_at_end items broken taken =
-      risen_by begun.broken now.broken begun now (trace_text items) whole broken (finished begun mid now items taken ended)
+      risen_after begun now (trace_text items) empty whole (finished begun mid now (trace_text items) taken ended) broken
 
 -- a status of a run that no fault stopped but one of its last line
 abbrev IsOfOutcome : Status → Type 0
@@ -94,7 +57,7 @@ IsOfOutcome OutFault = ⊥
 IsOfOutcome ErrFault = ⊤
 IsOfOutcome (FuelSpent steps) = ⊤
 IsOfOutcome (Faulted shown) = ⊤
-IsOfOutcome NotYet = ⊥
+IsOfOutcome (Refused refusal) = ⊥
 IsOfOutcome Memory = ⊥
 
 of_outcome : (outcome : Outcome) (fuel : ℕ) (status : Status) (before now : Option (List ℕ)) → Finishes (Ok outcome) fuel status before now → IsOfOutcome status
@@ -107,7 +70,7 @@ of_outcome (Ended ending) fuel OutFault before now finishes = absurd finishes
 of_outcome (Ended ending) fuel ErrFault before now finishes = tt
 of_outcome (Ended ending) fuel (FuelSpent steps) before now finishes = absurd finishes
 of_outcome (Ended ending) fuel (Faulted shown) before now finishes = tt
-of_outcome (Ended ending) fuel NotYet before now finishes = absurd finishes
+of_outcome (Ended ending) fuel (Refused refusal) before now finishes = absurd finishes
 of_outcome (Ended ending) fuel Memory before now finishes = absurd finishes
 of_outcome Spent fuel Done before now finishes = absurd finishes
 of_outcome Spent fuel Usage before now finishes = absurd finishes
@@ -118,7 +81,7 @@ of_outcome Spent fuel OutFault before now finishes = absurd finishes
 of_outcome Spent fuel ErrFault before now finishes = absurd finishes
 of_outcome Spent fuel (FuelSpent steps) before now finishes = tt
 of_outcome Spent fuel (Faulted shown) before now finishes = absurd finishes
-of_outcome Spent fuel NotYet before now finishes = absurd finishes
+of_outcome Spent fuel (Refused refusal) before now finishes = absurd finishes
 of_outcome Spent fuel Memory before now finishes = absurd finishes
 
 all_got : (status : Status) (text : List ℕ) (before now : Option (List ℕ)) → IsOfOutcome status → Appends before now text → TraceGot status text before now
@@ -131,7 +94,7 @@ all_got OutFault text before now of all = absurd of
 all_got ErrFault text before now of all = whole_front before now text all
 all_got (FuelSpent steps) text before now of all = all
 all_got (Faulted shown) text before now of all = all
-all_got NotYet text before now of all = absurd of
+all_got (Refused refusal) text before now of all = absurd of
 all_got Memory text before now of all = absurd of
 
 front_got : (fault : MachineFault) (text : List ℕ) (before now : Option (List ℕ)) → AppendsFront before now text → TraceGot (status_of fault) text before now
@@ -157,7 +120,7 @@ trace_got r items told told_now (Ok outcome) (Err failed) held fuel status err_n
     (front_got MachineFault.EventFault (trace_text items) sink sink_now (front_at begun.told now.told sink sink_now (trace_text items) from to (front_of_all begun mid now empty whole ended items ran.2)))
 trace_got r items told told_now (Err fault) written held fuel status err_now begun mid now sink sink_now from to empty whole ran ended unbroken emptied finishes =
     subst (λ s. TraceGot s (trace_text items) sink sink_now) (sym finishes.0)
-    (front_got fault (trace_text items) sink sink_now (front_at begun.told now.told sink sink_now (trace_text items) from to (front_of_lines begun mid now empty whole ended items ran.1.0 ran.1.2)))
+    (front_got fault (trace_text items) sink sink_now (front_at begun.told now.told sink sink_now (trace_text items) from to (front_of_some begun mid now empty whole ended items ran.1.0 ran.1.2)))
 
 -- a run whose last lines couldn't be handed on is one that its taker stopped
 pub settles : (r : Run) (items : List Item) (told told_now : Told) (took : List Item → Type 0) (answer : Result Outcome MachineFault) (written : Result Unit Failed) (held : Held)
@@ -190,10 +153,10 @@ sink_risen (Err MachineFault.OutFault) written fuel status told told_now before 
 sink_risen (Err MachineFault.ErrFault) written fuel status told told_now before after begun mid now sink sink_now from to empty whole e1 e2 e3 e4 causes taken ended broken finishes is =
     absurd (cc (is, finishes.0))
 sink_risen (Err MachineFault.EventFault) written fuel status told told_now before after begun mid now sink sink_now from to empty whole e1 e2 e3 e4 causes taken ended broken finishes is = λ small.
-    let later = later_by mid.broken now.broken mid now [] ended in
+    let more = later mid now [] ended in
     elim causes [
       | inl events ↦ absurd (omega (arith, events.0.risen (omega (arith, e1)), e1, e3))
-      | inr items ↦ omega (arith, items.0.risen (omega (arith, e2, from, small)), e2, e4, from, to, later)
+      | inr items ↦ omega (arith, items.0.risen (omega (arith, e2, from, small)), e2, e4, from, to, more)
     ]
 
 -- whose fault a fault is, of the streams

@@ -1,4 +1,4 @@
-pub mod RowFile
+pub mod Refusing
 pub mod Reading
 pub mod Task
 pub mod Status
@@ -8,4 +8,5 @@ pub mod World
 pub mod Running
 pub mod Run
 pub mod Plain
+pub mod Printing
 pub mod Top

@@ -8,7 +8,9 @@ use Rattle.rv_machine.specs.declared.outcome.MachineFault.TheVariants.{EventFaul
 use Rattle.rv_machine.specs.declared.outcome.Outcome.{Outcome}
 use Rattle.ae_ports.specs.Files.{Files, SameFiles, SameOthers, SameFile, IsEmptyFile, HasBytes}
 use Rattle.ae_top.specs.declared.status.Status.{Status}
-use Rattle.ae_top.specs.declared.status.Status.TheVariants.{Done, Usage, Missing, StoreFault, InputFault, OutFault, ErrFault, FuelSpent, Faulted, NotYet, Memory}
+use Rattle.ae_top.specs.declared.status.Status.TheVariants.{Done, Usage, Missing, Refused, StoreFault, InputFault, OutFault, ErrFault, FuelSpent, Faulted, Memory}
+use Rattle.ae_top.specs.declared.refusal.Refusal.{Refusal}
+use Rattle.ae_top.specs.Refusing.{traced_refusal, IsNamed}
 use Rattle.ae_top.specs.Running.{RanAs, RanFile, Refuses, RefusesFile, ShowsEnd, IsUnrun}
 use Rattle.ae_top.specs.World.{World}
 
@@ -27,7 +29,7 @@ TraceHas OutFault text files trace = HasFront files trace text
 TraceHas ErrFault text files trace = HasFront files trace text
 TraceHas Usage text files trace = ⊥
 TraceHas (Missing word) text files trace = ⊥
-TraceHas NotYet text files trace = ⊥
+TraceHas (Refused refusal) text files trace = ⊥
 TraceHas Memory text files trace = ⊥
 
 -- the same of a sink that the lines go to
@@ -41,7 +43,7 @@ TraceGot OutFault text before now = AppendsFront before now text
 TraceGot ErrFault text before now = AppendsFront before now text
 TraceGot Usage text before now = ⊥
 TraceGot (Missing word) text before now = ⊥
-TraceGot NotYet text before now = ⊥
+TraceGot (Refused refusal) text before now = ⊥
 TraceGot Memory text before now = ⊥
 
 -- the answer of a traced run, once the last lines were handed on
@@ -59,13 +61,13 @@ pub record IsUnmade (status : Status) (before now : World) (trace : List ℕ) : 
 -- the program was run, and its items went to TRACE
 abbrev pub Traced : Status → (bytes : List ℕ) → (fuel : ℕ) → (trace : List ℕ) → (before now : World) → Type 0
 Traced status bytes fuel trace before now =
-    RanFile bytes fuel before.streams.input (λ r items. RanAs status fuel r before.streams now.streams × TraceHas status (trace_text items) now.files trace)
+    RanFile traced_refusal bytes fuel before.streams.input (λ r items. RanAs status fuel r before.streams now.streams × TraceHas status (trace_text items) now.files trace)
 
 -- What the status says where PROG has these bytes: the program was refused, and all is as before; or TRACE couldn't be
 -- made; or it was run.
 abbrev pub PlainSaysOfFile : Status → (bytes : List ℕ) → (fuel : ℕ) → (trace : List ℕ) → (before now : World) → Type 0
-PlainSaysOfFile NotYet bytes fuel trace before now = RefusesFile NotYet bytes
-PlainSaysOfFile Memory bytes fuel trace before now = RefusesFile Memory bytes
+PlainSaysOfFile (Refused refusal) bytes fuel trace before now = RefusesFile traced_refusal (Refused refusal) bytes
+PlainSaysOfFile Memory bytes fuel trace before now = RefusesFile traced_refusal Memory bytes
 PlainSaysOfFile StoreFault bytes fuel trace before now =
     IsUnmade StoreFault before now trace ⊎ Traced StoreFault bytes fuel trace before now
 PlainSaysOfFile Usage bytes fuel trace before now = ⊥
@@ -79,14 +81,15 @@ PlainSaysOfFile ErrFault bytes fuel trace before now = Traced ErrFault bytes fue
 
 -- the same where the store has this file or none
 abbrev pub PlainSays : (prog : ℕ) → Status → (file : Option (List ℕ)) → (fuel : ℕ) → (trace : List ℕ) → (before now : World) → Type 0
-PlainSays prog status None fuel trace before now = Refuses prog status None × (now.streams ≡ before.streams) × SameFiles before.files now.files
+PlainSays prog status None fuel trace before now = Refuses traced_refusal prog status None × (now.streams ≡ before.streams) × SameFiles before.files now.files
 PlainSays prog status (Some bytes) fuel trace before now = PlainSaysOfFile status bytes fuel trace before now
 
 -- PROG is the word at this place and has this name, and TRACE has that name.
 pub record KeepsPlain (prog : ℕ) (name trace : List ℕ) (fuel : ℕ) (status : Status) (before now : World) : Type 0 where
   pub says : MatchOption before.files ⊤ (λ files. PlainSays prog status (files name) fuel trace before now)
-  pub shows : ShowsEnd status before.streams.err now.streams.err
+  pub shows : ShowsEnd status fuel before.streams.err now.streams.err
   -- a program that isn't run makes no file
   pub unrun : IsUnrun status → (now.streams ≡ before.streams) × SameFiles before.files now.files
   pub missing : (word : ℕ) → status ≡ Missing word → word ≡ prog
+  pub refused : (refusal : Refusal) → status ≡ Refused refusal → IsNamed refusal
   pub others : SameOthers before.files now.files trace

@@ -1,19 +1,22 @@
 -- What a status says of a run, and what the streams have got of the run when the status is known. `run` and `plain` have
 -- this in common.
-use Rattle.std.specs.Prelude.{◌≡◌, ◌⊎◌, ℕ, Bool, true, false, List, ◌++◌, ⊤, Option, Some, None, Result, Ok, Err}
+use Rattle.std.specs.Prelude.{◌≡◌, ◌⊎◌, ℕ, ◌≤◌, Bool, true, false, List, length, ◌++◌, ⊤, Option, Some, None, Result, Ok, Err}
 use Rattle.ae_nums.specs.declared.item.Item.{Item}
 use Rattle.ae_ports.specs.Content.{Appends, AppendsFront}
+use Rattle.elf_image.specs.Accepted.{IsAccepted, file_limit}
 use Rattle.rv_code.specs.declared.ending.Ending.{Ending}
 use Rattle.rv_code.specs.declared.ending.Ending.TheVariants.{Exit, Illegal, Breakpoint, LoadFault, StoreFault, FetchFault, JumpMisaligned}
+use Rattle.rv_code.specs.declared.image.Image.{Image}
 use Rattle.rv_machine.specs.declared.outcome.MachineFault.{MachineFault}
 use Rattle.rv_machine.specs.declared.outcome.Outcome.{Outcome}
 use Rattle.rv_machine.specs.declared.outcome.Outcome.TheVariants.{Ended, Spent}
 use Rattle.rv_machine.specs.Held.{Held, loaded_of}
 use Rattle.rv_machine.specs.Run.{Run, run_of, items_of}
+use Rattle.ae_top.specs.declared.refusal.Refusal.{Refusal}
 use Rattle.ae_top.specs.declared.status.Status.{Status}
-use Rattle.ae_top.specs.declared.status.Status.TheVariants.{Done, Usage, Missing, InputFault, OutFault, ErrFault, FuelSpent, Faulted, NotYet, Memory}
+use Rattle.ae_top.specs.declared.status.Status.TheVariants.{Done, Usage, Missing, Refused, InputFault, OutFault, ErrFault, FuelSpent, Faulted, Memory}
 use Rattle.ae_top.specs.EndingLines.{ending_line, line_of_end}
-use Rattle.ae_top.specs.RowFile.{IsRowCode, IsNoRowFile, row_file, row_image}
+use Rattle.ae_top.specs.Refusing.{IsNamed}
 use Rattle.ae_top.specs.World.{Streams}
 
 abbrev pub is_exit : Ending → Bool
@@ -55,22 +58,22 @@ RanAs ErrFault fuel r before now = GivesFronts r before now
 RanAs Status.StoreFault fuel r before now = GivesFronts r before now
 RanAs Usage fuel r before now = ⊥
 RanAs (Missing word) fuel r before now = ⊥
-RanAs NotYet fuel r before now = ⊥
+RanAs (Refused refusal) fuel r before now = ⊥
 RanAs Memory fuel r before now = ⊥
 
--- These bytes are a file of the one form, and what is said of a run and its items is so of that of its image on the input,
--- if that told its bytes.
-pub record RanFile (bytes : List ℕ) (fuel : ℕ) (input : Option (List ℕ)) (says : Run → List Item → Type 0) : Type 0 where
-  pub code : List ℕ
-  pub form : IsRowCode code
-  pub file : bytes ≡ row_file code
-  pub run : (told : List ℕ) → input ≡ Some told → says (run_of (row_image code) told fuel) (items_of (row_image code) told fuel)
+-- The file with these bytes is accepted, nothing that is asked of it refuses it, and what is said of a run and its items is
+-- so of that of its image on the input, if that told its bytes.
+pub record RanFile (asks : List ℕ → Option Refusal) (bytes : List ℕ) (fuel : ℕ) (input : Option (List ℕ)) (says : Run → List Item → Type 0) : Type 0 where
+  pub image : Image
+  pub accepted : IsAccepted bytes image
+  pub asked : asks bytes ≡ None
+  pub run : (told : List ℕ) → input ≡ Some told → says (run_of image told fuel) (items_of image told fuel)
 
 -- the program wasn't run
 abbrev pub IsUnrun : Status → Type 0
 IsUnrun Usage = ⊤
 IsUnrun (Missing word) = ⊤
-IsUnrun NotYet = ⊤
+IsUnrun (Refused refusal) = ⊤
 IsUnrun Memory = ⊤
 IsUnrun Done = ⊥
 IsUnrun Status.StoreFault = ⊥
@@ -80,29 +83,44 @@ IsUnrun ErrFault = ⊥
 IsUnrun (FuelSpent steps) = ⊥
 IsUnrun (Faulted ending) = ⊥
 
--- Why a program that is there wasn't run: it isn't of the one form, the store failed, or memory was wanting.
-abbrev pub RefusesFile : Status → (bytes : List ℕ) → Type 0
-RefusesFile NotYet bytes = IsNoRowFile bytes
-RefusesFile Memory bytes = ⊤
-RefusesFile Status.StoreFault bytes = ⊤
-RefusesFile Usage bytes = ⊥
-RefusesFile (Missing word) bytes = ⊥
-RefusesFile Done bytes = ⊥
-RefusesFile InputFault bytes = ⊥
-RefusesFile OutFault bytes = ⊥
-RefusesFile ErrFault bytes = ⊥
-RefusesFile (FuelSpent steps) bytes = ⊥
-RefusesFile (Faulted ending) bytes = ⊥
+-- Why a program that is there wasn't run: it was refused, the store failed, or memory was wanting, which is never said of a
+-- file that is too long.
+abbrev pub RefusesFile : (asks : List ℕ → Option Refusal) → Status → (bytes : List ℕ) → Type 0
+RefusesFile asks (Refused refusal) bytes = asks bytes ≡ Some refusal
+RefusesFile asks Memory bytes = length bytes ≤ file_limit
+RefusesFile asks Status.StoreFault bytes = ⊤
+RefusesFile asks Usage bytes = ⊥
+RefusesFile asks (Missing word) bytes = ⊥
+RefusesFile asks Done bytes = ⊥
+RefusesFile asks InputFault bytes = ⊥
+RefusesFile asks OutFault bytes = ⊥
+RefusesFile asks ErrFault bytes = ⊥
+RefusesFile asks (FuelSpent steps) bytes = ⊥
+RefusesFile asks (Faulted ending) bytes = ⊥
 
 -- why the program with this place among the words wasn't run, of which the store has this file or none
-abbrev pub Refuses : (prog : ℕ) → Status → (file : Option (List ℕ)) → Type 0
-Refuses prog status None = (status ≡ Missing prog) ⊎ (status ≡ Status.StoreFault)
-Refuses prog status (Some bytes) = RefusesFile status bytes
+abbrev pub Refuses : (asks : List ℕ → Option Refusal) → (prog : ℕ) → Status → (file : Option (List ℕ)) → Type 0
+Refuses asks prog status None = (status ≡ Missing prog) ⊎ (status ≡ Status.StoreFault)
+Refuses asks prog status (Some bytes) = RefusesFile asks status bytes
+
+-- a status of a program that was read and wasn't run
+abbrev pub IsFileRefusal : Status → Type 0
+IsFileRefusal (Refused refusal) = IsNamed refusal
+IsFileRefusal Memory = ⊤
+IsFileRefusal (Missing word) = ⊥
+IsFileRefusal Status.StoreFault = ⊥
+IsFileRefusal Usage = ⊥
+IsFileRefusal Done = ⊥
+IsFileRefusal InputFault = ⊥
+IsFileRefusal OutFault = ⊥
+IsFileRefusal ErrFault = ⊥
+IsFileRefusal (FuelSpent steps) = ⊥
+IsFileRefusal (Faulted ending) = ⊥
 
 -- a status of a program that wasn't run
 abbrev pub IsRefusal : (prog : ℕ) → Status → Type 0
 IsRefusal prog (Missing word) = word ≡ prog
-IsRefusal prog NotYet = ⊤
+IsRefusal prog (Refused refusal) = IsNamed refusal
 IsRefusal prog Memory = ⊤
 IsRefusal prog Status.StoreFault = ⊤
 IsRefusal prog Usage = ⊥
@@ -113,12 +131,12 @@ IsRefusal prog ErrFault = ⊥
 IsRefusal prog (FuelSpent steps) = ⊥
 IsRefusal prog (Faulted ending) = ⊥
 
--- The bytes are a file of the one form, and the machine has been loaded with its image.
-pub record IsLoaded (machine : Held) (bytes : List ℕ) : Type 0 where
-  pub code : List ℕ
-  pub form : IsRowCode code
-  pub file : bytes ≡ row_file code
-  pub loaded : machine ≡ loaded_of (row_image code)
+-- The file with these bytes is accepted and not refused, and the machine has been loaded with its image.
+pub record IsLoaded (asks : List ℕ → Option Refusal) (machine : Held) (bytes : List ℕ) : Type 0 where
+  pub image : Image
+  pub accepted : IsAccepted bytes image
+  pub asked : asks bytes ≡ None
+  pub loaded : machine ≡ loaded_of image
 
 -- how an answer of the machine becomes a status, once the second output has got the ending's line
 abbrev pub Finishes : Result Outcome MachineFault → (fuel : ℕ) → Status → (before now : Option (List ℕ)) → Type 0
@@ -131,16 +149,16 @@ Finishes (Ok Spent) fuel _ before now = ⊥
 Finishes (Err fault) fuel status before now = (status ≡ status_of fault) × (now ≡ before)
 
 -- What a status shows whatever is told of the files and the input: a run that ended gave its ending's line behind all else
--- to the second output.
-abbrev pub ShowsEnd : Status → (before now : Option (List ℕ)) → Type 0
-ShowsEnd Done before now = (shown : List ℕ) × (code : ℕ) × Appends before now (shown ++ ending_line (Exit code))
-ShowsEnd (Faulted ending) before now = (shown : List ℕ) × Appends before now (shown ++ ending_line ending)
-ShowsEnd Usage before now = now ≡ before
-ShowsEnd (Missing word) before now = now ≡ before
-ShowsEnd NotYet before now = now ≡ before
-ShowsEnd Memory before now = now ≡ before
-ShowsEnd Status.StoreFault before now = (shown : List ℕ) × Appends before now shown
-ShowsEnd InputFault before now = (shown : List ℕ) × Appends before now shown
-ShowsEnd OutFault before now = (shown : List ℕ) × Appends before now shown
-ShowsEnd ErrFault before now = (shown : List ℕ) × Appends before now shown
-ShowsEnd (FuelSpent steps) before now = (shown : List ℕ) × Appends before now shown
+-- to the second output, and fuel that was spent is all that there was.
+abbrev pub ShowsEnd : Status → (fuel : ℕ) → (before now : Option (List ℕ)) → Type 0
+ShowsEnd Done fuel before now = (shown : List ℕ) × (code : ℕ) × Appends before now (shown ++ ending_line (Exit code))
+ShowsEnd (Faulted ending) fuel before now = (is_exit ending ≡ false) × ((shown : List ℕ) × Appends before now (shown ++ ending_line ending))
+ShowsEnd Usage fuel before now = now ≡ before
+ShowsEnd (Missing word) fuel before now = now ≡ before
+ShowsEnd (Refused refusal) fuel before now = now ≡ before
+ShowsEnd Memory fuel before now = now ≡ before
+ShowsEnd Status.StoreFault fuel before now = (shown : List ℕ) × Appends before now shown
+ShowsEnd InputFault fuel before now = (shown : List ℕ) × Appends before now shown
+ShowsEnd OutFault fuel before now = (shown : List ℕ) × Appends before now shown
+ShowsEnd ErrFault fuel before now = (shown : List ℕ) × Appends before now shown
+ShowsEnd (FuelSpent steps) fuel before now = (steps ≡ fuel) × ((shown : List ℕ) × Appends before now shown)

@@ -5,27 +5,64 @@ use Rattle.ae_nums.specs.Decimal.{decimal_text}
 use Rattle.ae_nums.specs.Trace.{newline}
 use Rattle.ae_ports.specs.Content.{Appends, AppendsFront}
 use Rattle.ae_ports.specs.Fault.{HasRisen}
+use Rattle.elf_image.specs.declared.fault.ImageFault.{ImageFault}
+use Rattle.elf_image.specs.declared.fault.ImageFault.TheVariants.{Dynamic, Segments, NoCode, EntryNotCode, BadRelocation, TooLarge, Traced}
+use Rattle.elf_image.specs.declared.fault.Over.TheVariants.{File, Mapped, Ranges, Words}
+use Rattle.elf_raw.specs.declared.fault.ElfFault.{ElfFault}
+use Rattle.elf_raw.specs.declared.fault.ElfFault.TheVariants.{NotElf, NotElf32Le, NotExec, NotRiscv, Compressed, OtherAbi, BadTable}
+use Rattle.ae_top.specs.declared.refusal.Refusal.{Refusal}
+use Rattle.ae_top.specs.declared.refusal.Refusal.TheVariants.{Elf, Image}
 use Rattle.ae_top.specs.declared.status.Status.{Status}
-use Rattle.ae_top.specs.declared.status.Status.TheVariants.{Done, Usage, Missing, StoreFault, InputFault, OutFault, ErrFault, FuelSpent, Faulted, NotYet, Memory}
+use Rattle.ae_top.specs.declared.status.Status.TheVariants.{Done, Usage, Missing, Refused, StoreFault, InputFault, OutFault, ErrFault, FuelSpent, Faulted, Memory}
+
+-- what a refusal says, before the place that it names
+abbrev pub refusal_text : Refusal → List ℕ
+refusal_text (Elf NotElf) = codes "ae: refused E1"
+refusal_text (Elf NotElf32Le) = codes "ae: refused E2"
+refusal_text (Elf NotExec) = codes "ae: refused E3"
+refusal_text (Elf NotRiscv) = codes "ae: refused E4"
+refusal_text (Elf Compressed) = codes "ae: refused E5"
+refusal_text (Elf OtherAbi) = codes "ae: refused E6"
+refusal_text (Elf (BadTable offset)) = codes "ae: refused E7 at "
+refusal_text (Elf ElfFault.NoMemory) = []
+refusal_text (Image Dynamic) = codes "ae: refused E8"
+refusal_text (Image (Segments index)) = codes "ae: refused E9 segment "
+refusal_text (Image NoCode) = codes "ae: refused E10"
+refusal_text (Image EntryNotCode) = codes "ae: refused E11"
+refusal_text (Image (BadRelocation index)) = codes "ae: refused E12 relocation "
+refusal_text (Image (TooLarge File)) = codes "ae: refused E13 file"
+refusal_text (Image (TooLarge Mapped)) = codes "ae: refused E13 mapped"
+refusal_text (Image (TooLarge Ranges)) = codes "ae: refused E13 ranges"
+refusal_text (Image (TooLarge Words)) = codes "ae: refused E13 words"
+refusal_text (Image Traced) = codes "ae: refused E14"
+refusal_text (Image ImageFault.NoMemory) = []
+
+-- the offset, or the number of the program header or of the relocation
+abbrev pub refusal_detail : Refusal → List ℕ
+refusal_detail (Elf (BadTable offset)) = decimal_text offset
+refusal_detail (Image (Segments index)) = decimal_text index
+refusal_detail (Image (BadRelocation index)) = decimal_text index
+refusal_detail _ = []
 
 -- what a status says, before the name or number that it has
 abbrev pub status_text : Status → List ℕ
 status_text Done = []
 status_text Usage = codes "ae: usage"
 status_text (Missing word) = codes "ae: missing "
+status_text (Refused refusal) = refusal_text refusal
 status_text StoreFault = codes "ae: store fault"
 status_text InputFault = codes "ae: input fault"
 status_text OutFault = codes "ae: out fault"
 status_text ErrFault = codes "ae: err fault"
 status_text (FuelSpent steps) = codes "ae: fuel spent "
 status_text (Faulted ending) = []
-status_text NotYet = codes "ae: not yet"
 status_text Memory = codes "ae: no memory"
 
--- the name of the file that isn't there, or the steps that were made
+-- the name of the file that isn't there, the place that a refusal names, or the steps that were made
 abbrev pub status_detail : List (List ℕ) → Status → List ℕ
 status_detail words (Missing word) = slice_index_or words word []
 status_detail words (FuelSpent steps) = decimal_text steps
+status_detail words (Refused refusal) = refusal_detail refusal
 status_detail words Done = []
 status_detail words Usage = []
 status_detail words StoreFault = []
@@ -33,7 +70,6 @@ status_detail words InputFault = []
 status_detail words OutFault = []
 status_detail words ErrFault = []
 status_detail words (Faulted ending) = []
-status_detail words NotYet = []
 status_detail words Memory = []
 
 abbrev pub status_line : List (List ℕ) → Status → List ℕ
@@ -51,10 +87,10 @@ LineBehind words Done middle now faults_middle faults_now = now ≡ middle
 LineBehind words (Faulted ending) middle now faults_middle faults_now = now ≡ middle
 LineBehind words Usage middle now faults_middle faults_now = Gets middle now faults_middle faults_now (status_line words Usage)
 LineBehind words (Missing word) middle now faults_middle faults_now = Gets middle now faults_middle faults_now (status_line words (Missing word))
+LineBehind words (Refused refusal) middle now faults_middle faults_now = Gets middle now faults_middle faults_now (status_line words (Refused refusal))
 LineBehind words StoreFault middle now faults_middle faults_now = Gets middle now faults_middle faults_now (status_line words StoreFault)
 LineBehind words InputFault middle now faults_middle faults_now = Gets middle now faults_middle faults_now (status_line words InputFault)
 LineBehind words OutFault middle now faults_middle faults_now = Gets middle now faults_middle faults_now (status_line words OutFault)
 LineBehind words ErrFault middle now faults_middle faults_now = Gets middle now faults_middle faults_now (status_line words ErrFault)
 LineBehind words (FuelSpent steps) middle now faults_middle faults_now = Gets middle now faults_middle faults_now (status_line words (FuelSpent steps))
-LineBehind words NotYet middle now faults_middle faults_now = Gets middle now faults_middle faults_now (status_line words NotYet)
 LineBehind words Memory middle now faults_middle faults_now = Gets middle now faults_middle faults_now (status_line words Memory)

@@ -3,8 +3,9 @@ use Rattle.std.specs.Prelude.{◌≡◌, ℕ, ◌≤◌, List, [], Option, None,
 use Rattle.ae_ports.specs.Files.{SameFiles}
 use Rattle.ae_top.specs.declared.status.Status.{Status}
 use Rattle.ae_top.specs.declared.task.Task.{Task}
-use Rattle.ae_top.specs.declared.task.Task.TheVariants.{Run, Plain}
+use Rattle.ae_top.specs.declared.task.Task.TheVariants.{Run, Plain, Print}
 use Rattle.ae_top.specs.Plain.{KeepsPlain}
+use Rattle.ae_top.specs.Printing.{KeepsPrint}
 use Rattle.ae_top.specs.Run.{KeepsRun}
 use Rattle.ae_top.specs.StatusLines.{LineBehind}
 use Rattle.ae_top.specs.World.{World, HasCauses}
@@ -21,6 +22,7 @@ Keeps None words status before now = KeepsAll before now
 Keeps (Some (Run prog fuel)) words status before now = KeepsRun prog (slice_index_or words prog []) fuel status before now
 Keeps (Some (Plain prog trace fuel)) words status before now =
     KeepsPlain prog (slice_index_or words prog []) (slice_index_or words trace []) fuel status before now
+Keeps (Some (Print kind file)) words status before now = KeepsPrint kind file (slice_index_or words file []) status before now
 
 -- the outside when the status was known: only the second output gets something behind that
 abbrev pub with_err : World → (err : Option (List ℕ)) → (count : ℕ) → World

@@ -3,7 +3,7 @@ use Rattle.std.specs.Prelude.{◌≡◌, ◌≢◌, ℕ, ◌≤◌, ⊤, List, O
 use Rattle.ae_ports.specs.Fault.{HasRisen}
 use Rattle.ae_ports.specs.Files.{Files}
 use Rattle.ae_top.specs.declared.status.Status.{Status}
-use Rattle.ae_top.specs.declared.status.Status.TheVariants.{Done, Usage, Missing, StoreFault, InputFault, OutFault, ErrFault, FuelSpent, Faulted, NotYet, Memory}
+use Rattle.ae_top.specs.declared.status.Status.TheVariants.{Done, Usage, Missing, Refused, StoreFault, InputFault, OutFault, ErrFault, FuelSpent, Faulted, Memory}
 
 -- the bytes that the input has left, and those that the outputs have taken, where told
 pub record Streams : Type 0 where
@@ -28,13 +28,13 @@ abbrev pub IsUntroubled : Status → Type 0
 IsUntroubled Done = ⊤
 IsUntroubled Usage = ⊤
 IsUntroubled (Missing word) = ⊤
+IsUntroubled (Refused refusal) = ⊤
 IsUntroubled StoreFault = ⊥
 IsUntroubled InputFault = ⊥
 IsUntroubled OutFault = ⊥
 IsUntroubled ErrFault = ⊥
 IsUntroubled (FuelSpent steps) = ⊤
 IsUntroubled (Faulted ending) = ⊤
-IsUntroubled NotYet = ⊤
 IsUntroubled Memory = ⊤
 
 -- A fault of a stream is the status only where the stream's count rose, and the count of each other stream is as before.

@@ -5,10 +5,11 @@
 mod ending_lines;
 mod finishing;
 mod plain;
+mod printing;
 mod program;
 mod reading;
-mod row_bytes;
-mod row_file;
+mod refusal;
+mod refusal_lines;
 mod run;
 mod status;
 mod status_lines;
@@ -17,5 +18,6 @@ mod task;
 mod tests;
 mod top;
 
+pub use refusal::Refusal;
 pub use status::Status;
 pub use top::ae;

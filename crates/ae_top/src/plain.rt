@@ -10,8 +10,8 @@ ghost use Rattle.ae_top.specs.World.{HasCauses, HasStreamCauses, IsUntroubled};
 
 use crate::Status;
 use crate::finishing::finish;
-use crate::program::load_program;
-use ae_nums::TraceWriter;
+use crate::program::load_original;
+use ae_nums::LineWriter;
 use ae_ports::{Failed, Sink, Source, Store, StoreSink, Word};
 use rv_machine::{Machine, MachineFault, Outcome};
 use std::alloc::Global;
@@ -48,7 +48,7 @@ fn trace_to<I: Source, O: Sink, P: Sink, K: Sink>(
         (record { input = I.told input.new; out = O.told out.new; err = P.told err.new })
         × TraceGot result (trace_text (items_in_run machine.old bytes fuel)) (K.told sink.old) (K.told sink.new) }
     ensures run { IsUnrun result → ⊥ }
-    ensures shows { ShowsEnd result (P.told err.old) (P.told err.new) }
+    ensures shows { ShowsEnd result fuel (P.told err.old) (P.told err.new) }
     ensures causes { HasStreamCauses result (I.faults input.old) (I.faults input.new) (O.faults out.old) (O.faults out.new) (P.faults err.old) (P.faults err.new) }
     ensures sink_fault { result ≡ Status.StoreFault → HasRisen (K.faults sink.old) (K.faults sink.new) }
     ensures sink_same { IsUntroubled result → K.faults sink.new ≡ K.faults sink.old }
@@ -58,7 +58,7 @@ fn trace_to<I: Source, O: Sink, P: Sink, K: Sink>(
     ensures err { P.same_rest err.old err.new }
     ensures sink { K.same_rest sink.old sink.new }
 {
-    let mut lines = TraceWriter::new(sink);
+    let mut lines = LineWriter::new(sink);
     let answer = machine.trace(fuel, input, out, err, &mut lines);
     let written = lines.finish();
     finish(settled(answer, written), fuel, err)
@@ -86,7 +86,7 @@ fn trace_machine<S: Store, I: Source, O: Sink, P: Sink>(
         (record { input = I.told input.new; out = O.told out.new; err = P.told err.new })
         × TraceHas result (trace_text (items_in_run machine.old bytes fuel)) (S.told store.new) trace.now) }
     ensures run { IsUnrun result → ⊥ }
-    ensures shows { ShowsEnd result (P.told err.old) (P.told err.new) }
+    ensures shows { ShowsEnd result fuel (P.told err.old) (P.told err.new) }
     ensures causes { HasCauses result (record { store = S.faults store.old; input = I.faults input.old; out = O.faults out.old; err = P.faults err.old }) (record { store = S.faults store.new; input = I.faults input.new; out = O.faults out.new; err = P.faults err.new }) }
     ensures others { SameOthers (S.told store.old) (S.told store.new) trace.now }
     ensures store { S.same_rest store.old store.new }
@@ -104,8 +104,9 @@ fn trace_machine<S: Store, I: Source, O: Sink, P: Sink>(
 /// Runs the executable that the store has under this name, which is the word at the place `prog`, for at most `fuel` steps,
 /// and writes the lines of its items to the file `trace`. The outputs get what they get of `run`.
 ///
-/// The lines go to the store in pieces of some thousand bytes. After a device's fault, TRACE has a front of them. Where the
-/// executable isn't of the one form the status is `NotYet`. Memory may be wanting before TRACE is made.
+/// The lines go to the store in pieces of some thousand bytes. After a device's fault, TRACE has a front of them, or is as
+/// before where it wasn't made. A file that isn't accepted or has been rewritten is `Refused`. Memory may be wanting before
+/// TRACE is made.
 pub fn plain<S: Store, I: Source, O: Sink, P: Sink>(
     alloc: Global,
     name: &Word,
@@ -127,7 +128,7 @@ pub fn plain<S: Store, I: Source, O: Sink, P: Sink>(
     ensures out { O.same_rest out.old out.new }
     ensures err { P.same_rest err.old err.new }
 {
-    match load_program(alloc, store, name, prog) {
+    match load_original(alloc, store, name, prog) {
         Ok(mut machine) => trace_machine(&mut machine, trace, fuel, store, input, out, err),
         Err(status) => status,
     }

@@ -25,6 +25,7 @@ pub fn read_file<S: Store>(
 ) -> Result<Vec<u8>, ReadFault>
     requires there { IsThere (S.told store.old) name.now }
     ensures whole { IfOk result (λ bytes. IsRead (S.told store.old) name.now size bytes.items) }
+    ensures within { IfOk result (λ bytes. length bytes.items ≤ size) }
     ensures failed { IsErrOf result ReadFault.Failed → HasRisen (S.faults store.old) (S.faults store.new) }
     ensures served { IfOk result (λ _. S.faults store.new ≡ S.faults store.old) }
     ensures unasked { IsErrOf result ReadFault.NoMemory → S.faults store.new ≡ S.faults store.old }

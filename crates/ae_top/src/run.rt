@@ -27,7 +27,7 @@ fn run_machine<I: Source, O: Sink, P: Sink>(
         (record { input = I.told input.new; out = O.told out.new; err = P.told err.new }) }
     ensures run { IsUnrun result → ⊥ }
     ensures no_store { result ≢ Status.StoreFault }
-    ensures shows { ShowsEnd result (P.told err.old) (P.told err.new) }
+    ensures shows { ShowsEnd result fuel (P.told err.old) (P.told err.new) }
     ensures causes { HasStreamCauses result (I.faults input.old) (I.faults input.new) (O.faults out.old) (O.faults out.new) (P.faults err.old) (P.faults err.new) }
     ensures input { I.same_rest input.old input.new }
     ensures out { O.same_rest out.old out.new }
@@ -40,7 +40,7 @@ fn run_machine<I: Source, O: Sink, P: Sink>(
 /// Runs the executable that the store has under this name, which is the word at the place `prog`, for at most `fuel`
 /// steps. The second output gets the ending's line behind what the program gave it.
 ///
-/// Where the executable isn't of the one form the status is `NotYet`. Memory may be wanting before the first step.
+/// A file that isn't accepted is `Refused`. Memory may be wanting before the first step.
 pub fn run<S: Store, I: Source, O: Sink, P: Sink>(
     alloc: Global,
     name: &Word,

@@ -1,6 +1,7 @@
 ghost use Rattle.std.specs.Prelude.{◌≡◌};
 ghost use Rattle.ae_top.specs.Status.{code_of};
 
+use crate::Refusal;
 use rv_code::Ending;
 
 /// What came of a command.
@@ -12,6 +13,8 @@ pub enum Status {
     Usage,
     /// The file that this word names, counted from 0, isn't there.
     Missing { word: u32 },
+    /// The file isn't taken as an executable.
+    Refused(Refusal),
     /// The store failed.
     StoreFault,
     /// The input failed.
@@ -24,8 +27,6 @@ pub enum Status {
     FuelSpent { steps: u64 },
     /// The run ended otherwise than with an exit.
     Faulted(Ending),
-    /// The executable isn't of the one form that is run today.
-    NotYet,
     /// Memory was wanting.
     Memory,
 }
@@ -39,13 +40,13 @@ impl Status {
             Status::Done => 0,
             Status::Usage => 2,
             Status::Missing { .. } => 4,
+            Status::Refused(_) => 5,
             Status::StoreFault => 8,
             Status::InputFault => 9,
             Status::OutFault => 10,
             Status::ErrFault => 10,
             Status::FuelSpent { .. } => 11,
             Status::Faulted(_) => 12,
-            Status::NotYet => 13,
             Status::Memory => 70,
         }
     }

@@ -1,13 +1,12 @@
 //! The lines of statuses.
 ghost use Rattle.std.specs.Prelude.{◌≡◌, ◌≤◌, ◌++◌, [], slice_index_or, OnOk, OnErr};
-ghost use Rattle.ae_nums.specs.Decimal.{decimal_text};
 ghost use Rattle.ae_nums.specs.Trace.{newline};
 ghost use Rattle.ae_ports.specs.Content.{Appends, AppendsFront};
 ghost use Rattle.ae_ports.specs.Fault.{HasCause};
 ghost use Rattle.ae_top.specs.StatusLines.{status_text, status_detail, status_line, Gets};
 
 use crate::Status;
-use ae_nums::{Text, decimal};
+use crate::refusal_lines::{digits_of, refusal_detail, refusal_text};
 use ae_ports::{Failed, Sink, Word, write_all};
 
 /// Writes a text, a detail and a newline.
@@ -30,23 +29,14 @@ fn text_of(status: Status) -> &'static [u8]
         Status::Done | Status::Faulted(_) => b"",
         Status::Usage => b"ae: usage",
         Status::Missing { .. } => b"ae: missing ",
+        Status::Refused(refusal) => refusal_text(refusal),
         Status::StoreFault => b"ae: store fault",
         Status::InputFault => b"ae: input fault",
         Status::OutFault => b"ae: out fault",
         Status::ErrFault => b"ae: err fault",
         Status::FuelSpent { .. } => b"ae: fuel spent ",
-        Status::NotYet => b"ae: not yet",
         Status::Memory => b"ae: no memory",
     }
-}
-
-/// A number in decimal.
-fn digits_of(number: u64) -> Text
-    ensures { result ≡ decimal_text number }
-{
-    let mut digits = Text::new();
-    decimal(number, &mut digits);
-    digits
 }
 
 /// The bytes of the word at this place, none where there is no such word.
@@ -70,6 +60,7 @@ fn write_status<K: Sink>(sink: &mut K, words: &[Word], status: Status) -> Result
     match status {
         Status::Missing { word } => write_line(sink, text, word_at(words, word)),
         Status::FuelSpent { steps } => write_line(sink, text, digits_of(steps).bytes()),
+        Status::Refused(refusal) => write_line(sink, text, refusal_detail(refusal).bytes()),
         _ => write_line(sink, text, b""),
     }
 }

@@ -7,12 +7,22 @@ use ae_words::{Command, read_words};
 /// The steps that a run may take where no fuel is given.
 const DEFAULT_FUEL: u64 = 1_000_000_000;
 
+/// What `print` prints of a file.
+#[derive(Clone, Copy, Debug, PartialEq, Eq)]
+pub enum Kind {
+    /// Its tables.
+    Elf,
+    /// Its code words.
+    Code,
+}
+
 /// What is asked for: a command that is carried out today, with the places of its file words among all words and the
 /// steps that its run may take.
 #[derive(Clone, Copy, Debug, PartialEq, Eq)]
 pub enum Task {
     Run { prog: u32, fuel: u64 },
     Plain { prog: u32, trace: u32, fuel: u64 },
+    Print { kind: Kind, file: u32 },
 }
 
 /// What the words ask for, `None` where they spell no command that is carried out.
@@ -48,12 +58,18 @@ fn task_of(command: Command) -> Option<Task>
             trace,
             fuel: fuel_of(fuel),
         }),
+        Command::PrintElf { file } => Some(Task::Print {
+            kind: Kind::Elf,
+            file,
+        }),
+        Command::PrintCode { file } => Some(Task::Print {
+            kind: Kind::Code,
+            file,
+        }),
         Command::Run { .. }
         | Command::Rewrite { .. }
         | Command::Regenerate { .. }
         | Command::Profile { .. }
-        | Command::PrintElf { .. }
-        | Command::PrintCode { .. }
         | Command::PrintGraph { .. }
         | Command::PrintNeeds { .. }
         | Command::PrintSlice { .. }

@@ -7,6 +7,7 @@ ghost use Rattle.ae_top.specs.World.{HasCauses};
 
 use crate::Status;
 use crate::plain::plain;
+use crate::printing::print;
 use crate::run::run;
 use crate::status_lines::tell;
 use crate::task::{Task, read_task};
@@ -15,11 +16,12 @@ use std::alloc::Global;
 
 /// Carries out the command that the words spell, over the files of the store, the input and the two outputs, and answers
 /// with what came of it. The words are those after the program's name. Today `run PROG` and `plain PROG TRACE` are carried
-/// out, each with `--fuel N` or without; all other words are answered with `Usage`.
+/// out, each with `--fuel N` or without, and `print elf FILE` and `print code FILE`; all other words are answered with
+/// `Usage`.
 ///
-/// Every call returns. The refusals come in this order: the words, a file that isn't there, a fault while it is read, an
-/// executable that isn't of the one form, and then what the run comes to. The line of a status goes to the second output;
-/// whether it could be written changes nothing.
+/// Every call returns. The refusals come in this order: the words, a file that isn't there, one that is too long, a fault
+/// while it is read, what refuses it as an executable, and then what the run comes to.
+/// The line of a status goes to the second output; whether it could be written changes nothing.
 pub fn ae<S: Store, I: Source, O: Sink, P: Sink>(
     alloc: Global,
     words: &[Word],
@@ -95,6 +97,9 @@ fn carry_out<S: Store, I: Source, O: Sink, P: Sink>(
             out,
             err,
         ),
+        Some(Task::Print { kind, file }) => {
+            print(alloc, kind, &words[file as usize], file, store, out)
+        }
         None => Status::Usage,
     }
 }

@@ -5,7 +5,8 @@ use super::outside::{
 };
 use super::row_files::{EXIT_SEVEN, file_of};
 use super::runs::READS;
-use crate::Status;
+use crate::{Refusal, Status};
+use elf_raw::ElfFault;
 use std::test::Fail;
 
 /// What stood in `T` before.
@@ -15,6 +16,9 @@ const OLD: &[u8] = b"old\n";
 const LINES: &[u8] = b"I 00010074\nI 00010078\nI 0001007c\n";
 
 const MISSING: Status = Status::Missing { word: 1 };
+
+/// What `N` is answered with.
+const NOT_ELF: Status = Status::Refused(Refusal::Elf(ElfFault::NotElf));
 
 /// Words over the three-word program, the calls of the store and of the second output that fail, the status, and what the
 /// second output and `T` have then.
@@ -27,7 +31,7 @@ type Row = (
     &'static [u8],
 );
 
-const ROWS: [Row; 27] = [
+const ROWS: [Row; 29] = [
     (
         "run P",
         &[0],
@@ -72,7 +76,7 @@ const ROWS: [Row; 27] = [
         b"ae: store fault",
         OLD,
     ),
-    ("run N", &[], &[0], Status::NotYet, b"", OLD),
+    ("run N", &[], &[0], NOT_ELF, b"", OLD),
     (
         "run N",
         &[0],
@@ -103,7 +107,7 @@ const ROWS: [Row; 27] = [
         OLD,
     ),
     ("plain Q T", &[1], &[2], MISSING, b"ae: missing Q", OLD),
-    ("plain N T", &[2], &[1], Status::NotYet, b"ae: not yet", OLD),
+    ("plain N T", &[2], &[1], NOT_ELF, b"ae: refused E1", OLD),
     (
         "plain P T",
         &[2],
@@ -113,6 +117,24 @@ const ROWS: [Row; 27] = [
         OLD,
     ),
     ("plain P T", &[2], &[0], Status::StoreFault, b"", OLD),
+    // the store fails while PROG is read, and makes no TRACE
+    (
+        "plain P T",
+        &[1],
+        &[],
+        Status::StoreFault,
+        b"ae: store fault\n",
+        OLD,
+    ),
+    // and so does `print`, which doesn't try again
+    (
+        "print code P",
+        &[1],
+        &[],
+        Status::StoreFault,
+        b"ae: store fault\n",
+        OLD,
+    ),
     // the store fails at the lines, which are handed on before the ending's line
     (
         "plain P T",

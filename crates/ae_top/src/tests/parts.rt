@@ -2,20 +2,20 @@
 
 use super::outside::{NO_FAILS, holds, made_outside, words_in};
 use super::row_files::{EXIT_SEVEN, file_of};
-use crate::Status;
 use crate::ending_lines::line_of_ending;
-use crate::program::load_program;
+use crate::program::{load_original, load_program};
 use crate::reading::read_file;
-use crate::row_bytes::file_of_code;
-use crate::row_file::{code_of_file, image_of_code};
 use crate::status_lines::tell;
+use crate::{Refusal, Status};
 use ae_ports::MemorySink;
+use elf_image::{ImageFault, Over};
+use elf_raw::ElfFault;
 use rv_code::Ending;
 use std::alloc::{AllocError, Global};
 use std::test::Fail;
 
 /// Each status with its exit code and its line, where the words are `plain P Q`.
-const STATUSES: [(Status, u8, &[u8]); 12] = [
+const STATUSES: [(Status, u8, &[u8]); 19] = [
     (Status::Usage, 2, b"ae: usage\n"),
     (Status::Missing { word: 2 }, 4, b"ae: missing Q\n"),
     (Status::Missing { word: 3 }, 4, b"ae: missing \n"),
@@ -29,7 +29,46 @@ const STATUSES: [(Status, u8, &[u8]); 12] = [
         11,
         b"ae: fuel spent 18446744073709551615\n",
     ),
-    (Status::NotYet, 13, b"ae: not yet\n"),
+    (
+        Status::Refused(Refusal::Elf(ElfFault::BadTable { offset: u32::MAX })),
+        5,
+        b"ae: refused E7 at 4294967295\n",
+    ),
+    (
+        Status::Refused(Refusal::Image(ImageFault::Segments { index: 1 })),
+        5,
+        b"ae: refused E9 segment 1\n",
+    ),
+    (
+        Status::Refused(Refusal::Image(ImageFault::BadRelocation { index: 70_000 })),
+        5,
+        b"ae: refused E12 relocation 70000\n",
+    ),
+    (
+        Status::Refused(Refusal::Image(ImageFault::TooLarge { what: Over::File })),
+        5,
+        b"ae: refused E13 file\n",
+    ),
+    (
+        Status::Refused(Refusal::Image(ImageFault::TooLarge { what: Over::Mapped })),
+        5,
+        b"ae: refused E13 mapped\n",
+    ),
+    (
+        Status::Refused(Refusal::Image(ImageFault::TooLarge { what: Over::Ranges })),
+        5,
+        b"ae: refused E13 ranges\n",
+    ),
+    (
+        Status::Refused(Refusal::Image(ImageFault::TooLarge { what: Over::Words })),
+        5,
+        b"ae: refused E13 words\n",
+    ),
+    (
+        Status::Refused(Refusal::Image(ImageFault::Traced)),
+        5,
+        b"ae: refused E14\n",
+    ),
     (Status::Memory, 70, b"ae: no memory\n"),
     (Status::Done, 0, b"\n"),
 ];
@@ -85,42 +124,17 @@ fn reads_a_file(rt: HostRuntime) -> Result<(), Fail> {
 }
 
 #[test]
-fn finds_the_code(rt: HostRuntime) -> Result<(), Fail> {
+fn loads_programs(rt: HostRuntime) -> Result<(), Fail> {
     let alloc = rt.alloc();
-    let file = file_of(alloc, &EXIT_SEVEN)?;
-    let Some(code) = code_of_file(alloc, &file)? else {
-        holds(&rt, 0, false);
-        return Ok(());
-    };
-    holds(&rt, 1, code.as_slice() == EXIT_SEVEN.as_slice());
-    let image = image_of_code(alloc, code)?;
-    holds(&rt, 2, image.entry == 0x0001_0074);
-    holds(&rt, 3, image.regions.as_slice().len() == 1);
-    for region in image.regions.as_slice() {
-        holds(&rt, 4, region.start == 0x0001_0000 && !region.writable);
-        holds(&rt, 5, Some(region.bytes.as_slice()) == file.get(..128));
-    }
-    for range in image.code.as_slice() {
-        holds(&rt, 6, range.start == 0x0001_0074);
-        holds(&rt, 7, range.words.as_slice() == EXIT_SEVEN.as_slice());
-    }
-    Ok(())
-}
-
-#[test]
-fn makes_and_loads_files(rt: HostRuntime) -> Result<(), Fail> {
-    let alloc = rt.alloc();
-    for count in [1, 3, 10, 1000, 32_768] {
+    for count in [1, 3, 1000, 32_768] {
         let code = vec![in alloc; 0x0000_0013; count]?;
         let file = file_of(alloc, &code)?;
         holds(&rt, count, file.len() == 196 + 4 * count);
-        if count <= 32_768 {
-            let made = file_of_code(alloc, &code)?;
-            holds(&rt, count, made.as_slice() == file.as_slice());
-        }
         let mut outside = made_outside(alloc, &file, None, b"", NO_FAILS)?;
         let loaded = load_program(alloc, &mut outside.store, &outside.prog, 1);
         holds(&rt, count, loaded.is_ok());
+        let original = load_original(alloc, &mut outside.store, &outside.prog, 1);
+        holds(&rt, count, original.is_ok());
     }
     Ok(())
 }

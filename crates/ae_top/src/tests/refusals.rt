@@ -1,12 +1,14 @@
-//! Words that spell no command, a file that isn't there, and files that aren't of the one form.
+//! Words that spell no command, a file that isn't there, and files that are refused.
 
 use super::outside::{
     NO_FAILS, Wanted, call, check_left, check_rest, has_left, holds, made_outside, words_in,
     words_with,
 };
-use super::row_files::{EXIT_SEVEN, damaged, file_of};
-use crate::Status;
+use super::row_files::{EXIT_SEVEN, damaged, file_of, row_file};
+use crate::{Refusal, Status};
 use ae_ports::Word;
+use elf_image::{ImageFault, Over};
+use elf_raw::ElfFault;
 use std::alloc::{AllocError, Global};
 use std::process::Abort;
 use std::test::Fail;
@@ -44,7 +46,7 @@ fn check_refused(
 }
 
 /// Words between single blanks.
-const WRONG_LINES: [&str; 58] = [
+const WRONG_LINES: [&str; 59] = [
     "",
     "run",
     "run ",
@@ -94,8 +96,9 @@ const WRONG_LINES: [&str; 58] = [
     "rewrite P Q S",
     "regenerate S E T",
     "profile S E",
-    "print elf P",
-    "print code P",
+    "print elf",
+    "print elf P P",
+    "print elfs P",
     "print graph P",
     "print needs P",
     "print slice P",
@@ -131,112 +134,215 @@ fn refuses_wrong_words(rt: HostRuntime) -> Result<(), Fail> {
 }
 
 /// A command whose PROG isn't there.
-const MISSING: [&str; 4] = ["run Q", "run Q --fuel 5", "plain Q T", "plain Q T --fuel 5"];
+const MISSING: [(&str, u32); 6] = [
+    ("run Q", 1),
+    ("run Q --fuel 5", 1),
+    ("plain Q T", 1),
+    ("plain Q T --fuel 5", 1),
+    ("print elf Q", 2),
+    ("print code Q", 2),
+];
 
 #[test]
 fn tells_what_is_missing(rt: HostRuntime) -> Result<(), Fail> {
     let alloc = rt.alloc();
     let file = file_of(alloc, &EXIT_SEVEN)?;
-    let missing: (Status, &[u8]) = (Status::Missing { word: 1 }, b"ae: missing Q\n");
-    for (row, line) in MISSING.iter().enumerate() {
+    for (row, (line, word)) in MISSING.iter().enumerate() {
         let words = words_in(alloc, line)?;
+        let missing: (Status, &[u8]) = (Status::Missing { word: *word }, b"ae: missing Q\n");
         check_refused(&rt, alloc, row, &words, &file, missing)?;
     }
     // a name may have any bytes but zero
     let words = words_with(alloc, &[b"run", b"\xff"])?;
     let no_text: (Status, &[u8]) = (Status::Missing { word: 1 }, b"ae: missing \xff\n");
     check_refused(&rt, alloc, 4, &words, &file, no_text)?;
-    holds(&rt, 0, missing.0.code() == 4);
+    holds(&rt, 0, no_text.0.code() == 4);
     Ok(())
 }
 
-/// Ends the test where the file isn't refused as one that isn't of the form.
-fn check_not_yet(
+/// Ends the test where the commands answer otherwise.
+fn check_file(
     rt: &impl Abort,
     alloc: Global,
     row: usize,
+    lines: &[&str],
     file: &[u8],
+    refused: (Status, &[u8]),
 ) -> Result<(), AllocError> {
-    for line in ["run P", "plain P T"] {
+    for line in lines {
         let words = words_in(alloc, line)?;
-        let not_yet: (Status, &[u8]) = (Status::NotYet, b"ae: not yet\n");
-        check_refused(rt, alloc, row, &words, file, not_yet)?;
-        holds(rt, row, not_yet.0.code() == 13);
+        check_refused(rt, alloc, row, &words, file, refused)?;
     }
     Ok(())
 }
 
-/// A length that the file is brought to, and the place of a byte that is changed.
-const DAMAGES: [(usize, usize); 12] = [
-    (0, 0),
-    (1, 1),
-    (196, 196),
-    (204, 204),
-    (207, 207),
-    (208, 0),
-    (208, 113),
-    (208, 128),
-    (208, 207),
-    (212, 212),
-    (131_268, 131_268),
-    (131_269, 131_269),
-];
+/// A length that the file is brought to, a byte that is made another, and what is then answered.
+struct Damage {
+    length: usize,
+    place: usize,
+    value: u8,
+    refusal: Refusal,
+    line: &'static [u8],
+}
 
-/// Words of code that no file of the form may have.
-const OTHER_FORMS: [u32; 17] = [
-    // slli x10, x10, 0
-    0x0005_1513,
-    // andi x5, x5, 1
-    0x0012_f293,
-    // sub x5, x5, x6
-    0x4062_82b3,
-    // sltu x5, x6, x7
-    0x0073_32b3,
-    // mul x5, x5, x6
-    0x0262_82b3,
-    // bne x5, x6, 8
-    0x0062_9463,
-    // lh x5, 0(x2)
-    0x0001_1283,
-    // lbu x5, 0(x2)
-    0x0001_4283,
-    // sb x5, 0(x2)
-    0x0051_0023,
-    // jalr x1, 0(x5)
-    0x0002_80e7,
-    // auipc x5, 1
-    0x0000_1297,
-    // ebreak
-    0x0010_0073,
-    // fence
-    0x0ff0_000f,
-    // ecall with a register, which has no such field
-    0x0000_00f3,
-    // no instructions
-    0x0000_0000,
-    0xffff_ffff,
-    0x0000_4501,
+const DAMAGES: [Damage; 11] = [
+    Damage {
+        length: 51,
+        place: 51,
+        value: 0,
+        refusal: Refusal::Elf(ElfFault::NotElf),
+        line: b"ae: refused E1\n",
+    },
+    Damage {
+        length: 208,
+        place: 4,
+        value: 2,
+        refusal: Refusal::Elf(ElfFault::NotElf32Le),
+        line: b"ae: refused E2\n",
+    },
+    Damage {
+        length: 208,
+        place: 16,
+        value: 3,
+        refusal: Refusal::Elf(ElfFault::NotExec),
+        line: b"ae: refused E3\n",
+    },
+    Damage {
+        length: 208,
+        place: 18,
+        value: 62,
+        refusal: Refusal::Elf(ElfFault::NotRiscv),
+        line: b"ae: refused E4\n",
+    },
+    Damage {
+        length: 208,
+        place: 36,
+        value: 1,
+        refusal: Refusal::Elf(ElfFault::Compressed),
+        line: b"ae: refused E5\n",
+    },
+    Damage {
+        length: 208,
+        place: 36,
+        value: 8,
+        refusal: Refusal::Elf(ElfFault::OtherAbi),
+        line: b"ae: refused E6\n",
+    },
+    Damage {
+        length: 100,
+        place: 100,
+        value: 0,
+        refusal: Refusal::Elf(ElfFault::BadTable { offset: 28 }),
+        line: b"ae: refused E7 at 28\n",
+    },
+    // PT_INTERP
+    Damage {
+        length: 208,
+        place: 84,
+        value: 3,
+        refusal: Refusal::Image(ImageFault::Dynamic),
+        line: b"ae: refused E8\n",
+    },
+    // a code segment that can't be executed
+    Damage {
+        length: 208,
+        place: 76,
+        value: 4,
+        refusal: Refusal::Image(ImageFault::Segments { index: 2 }),
+        line: b"ae: refused E9 segment 2\n",
+    },
+    // no section headers
+    Damage {
+        length: 208,
+        place: 48,
+        value: 0,
+        refusal: Refusal::Image(ImageFault::NoCode),
+        line: b"ae: refused E10\n",
+    },
+    // the entry is no multiple of 4
+    Damage {
+        length: 208,
+        place: 24,
+        value: 0x75,
+        refusal: Refusal::Image(ImageFault::EntryNotCode),
+        line: b"ae: refused E11\n",
+    },
 ];
 
 #[test]
 fn refuses_other_files(rt: HostRuntime) -> Result<(), Fail> {
     let alloc = rt.alloc();
-    for (row, (length, place)) in DAMAGES.iter().enumerate() {
-        let file = damaged(alloc, &EXIT_SEVEN, *length, *place)?;
-        check_not_yet(&rt, alloc, row, &file)?;
+    for (row, damage) in DAMAGES.iter().enumerate() {
+        let file = damaged(
+            alloc,
+            &EXIT_SEVEN,
+            damage.length,
+            damage.place,
+            damage.value,
+        )?;
+        let refused: (Status, &[u8]) = (Status::Refused(damage.refusal), damage.line);
+        check_file(
+            &rt,
+            alloc,
+            row,
+            &["run P", "plain P T", "print code P"],
+            &file,
+            refused,
+        )?;
+        if row < 7 {
+            check_file(&rt, alloc, row, &["print elf P"], &file, refused)?;
+        }
+        holds(&rt, row, refused.0.code() == 5);
     }
-    for (row, word) in OTHER_FORMS.iter().enumerate() {
-        let alone = file_of(alloc, &[*word])?;
-        check_not_yet(&rt, alloc, row, &alone)?;
-        // behind an exit, where it would never be reached
-        let behind = file_of(alloc, &[0x05d0_0893, 0x0000_0073, *word])?;
-        check_not_yet(&rt, alloc, row, &behind)?;
+    Ok(())
+}
+
+#[test]
+fn refuses_too_many_words(rt: HostRuntime) -> Result<(), Fail> {
+    let alloc = rt.alloc();
+    let fault = ImageFault::TooLarge { what: Over::Words };
+    let refused: (Status, &[u8]) = (
+        Status::Refused(Refusal::Image(fault)),
+        b"ae: refused E13 words\n",
+    );
+    let code = vec![in alloc; 0x0000_0013; 32_769]?;
+    let file = file_of(alloc, &code)?;
+    check_file(&rt, alloc, 0, &["run P", "plain P T"], &file, refused)?;
+    Ok(())
+}
+
+/// The bytes of a note, in words: `AEN1`, entry, first code address, number of code words, buffer, used, number of marks.
+const NOTE: [u32; 7] = [0x314e_4541, 0x0001_0074, 0x0001_0074, 3, 0, 0, 0];
+
+/// The file of the call exit whose second program header is that of a note with these bytes.
+fn noted(alloc: Global, note: &[u32; 7]) -> Result<Vec<u8>, AllocError> {
+    let mut bytes = Vec::new(alloc);
+    for word in note {
+        bytes.extend_from_slice(&word.to_le_bytes())?;
     }
-    // no word of code, and one too many
-    for count in [0, 32_769] {
-        let code = vec![in alloc; 0x0000_0013; count]?;
-        let file = file_of(alloc, &code)?;
-        check_not_yet(&rt, alloc, count, &file)?;
+    let mut file = row_file(alloc, &EXIT_SEVEN, &bytes, 0)?;
+    for (kind, byte) in file.iter_mut().skip(84).zip([0x31, 0x45, 0x41, 0x60]) {
+        *kind = byte;
     }
+    Ok(file)
+}
+
+#[test]
+fn knows_a_rewritten_file(rt: HostRuntime) -> Result<(), Fail> {
+    let alloc = rt.alloc();
+    let traced: (Status, &[u8]) = (
+        Status::Refused(Refusal::Image(ImageFault::Traced)),
+        b"ae: refused E14\n",
+    );
+    let file = noted(alloc, &NOTE)?;
+    check_file(&rt, alloc, 0, &["plain P T"], &file, traced)?;
+    // a mark that isn't there
+    let [magic, entry, first, count, buffer, used, _] = NOTE;
+    let other = noted(alloc, &[magic, entry, first, count, buffer, used, 1])?;
+    let refused: (Status, &[u8]) = (
+        Status::Refused(Refusal::Image(ImageFault::Segments { index: 1 })),
+        b"ae: refused E9 segment 1\n",
+    );
+    check_file(&rt, alloc, 2, &["run P", "plain P T"], &other, refused)?;
     Ok(())
 }

@@ -1,5 +1,5 @@
 use Rattle.ae_top.specs.World.{Streams}
-use Rattle.ae_top.proofs.Kept.{run_says, not_missing}
+use Rattle.ae_top.proofs.Kept.{run_says, not_missing, not_refused}
 use Rattle.ae_top.proofs.run.run.Goals as goal
 
 pub returns-in-Ok-clause-keeps : goal.returns-in-Ok-clause-keeps
@@ -12,6 +12,7 @@ returns-in-Ok-clause-keeps g c =
       unrun = λ unrun. absurd (c.run_machine.ensures.run unrun);
       unread = λ is. absurd (c.run_machine.ensures.no_store is);
       missing = not_missing c.run_machine.result c.args.prog c.run_machine.ensures.run;
+      refused = not_refused c.run_machine.result c.run_machine.ensures.run;
       files = c.in-Ok.ensures.files;
       store = λ _. c.in-Ok.ensures.served;
     }

@@ -1,10 +1,10 @@
-use Rattle.std.proofs.Common.{◌≡◌, ◌<◌, [], length, Some, ap, sym, ◌∙◌}
+use Rattle.std.proofs.Common.{◌≡◌, ◌<◌, [], length, Some, ap, sym, ◌∙◌, refl}
 use Rattle.std.proofs.lemmas.List.{get_or_read}
-use Rattle.ae_top.specs.declared.task.Task.TheVariants.{Run, Plain}
+use Rattle.ae_top.specs.declared.task.Task.TheVariants.{Run, Plain, Print}
 use Rattle.ae_top.specs.Task.{task_in}
 use Rattle.ae_top.specs.World.{World}
-use Rattle.ae_top.proofs.KeptTop.{run_kept, plain_kept}
-use Rattle.ae_top.proofs.Named.{run_named_word, plain_named_words}
+use Rattle.ae_top.proofs.KeptTop.{run_kept, plain_kept, print_kept}
+use Rattle.ae_top.proofs.Named.{run_named_word, plain_named_words, print_named_word}
 use Rattle.ae_top.proofs.top.carry_out.Goals as goal
 
 pub bounds-words-prog : goal.bounds-words-prog
@@ -64,3 +64,36 @@ returns-in-Some-Plain-clause-keeps g c =
       counts = record { store = g.S.Store.faults c.plain.new.store; input = g.I.Source.faults c.plain.new.input; out = g.O.Sink.faults c.plain.new.out; err = g.P.Sink.faults c.plain.new.err };
     } in
     plain_kept (task_in words) words task.prog task.trace task.fuel prog.result trace.result c.plain.result before now is named traced c.plain.ensures.keeps
+
+pub bounds-words-file : goal.bounds-words-file
+bounds-words-file g c =
+    let is : task_in c.args.words.now ≡ Some (Print c.in-Some-Print.kind c.in-Some-Print.file) = sym c.read_task.ensures ∙ c.in-Some-Print.is ∙ ap Some c.in-Some-Print.field-0-is in
+    print_named_word c.args.words.now c.in-Some-Print.kind c.in-Some-Print.file is
+
+pub returns-in-Some-Print-clause-keeps : goal.returns-in-Some-Print-clause-keeps
+returns-in-Some-Print-clause-keeps g c =
+    let words = c.args.words.now in
+    let task = c.in-Some-Print in
+    let is : task_in words ≡ Some (Print task.kind task.file) = sym c.read_task.ensures ∙ task.is ∙ ap Some task.field-0-is in
+    let within : task.file < length words = print_named_word words task.kind task.file is in
+    let named = get_or_read words task.file c.index-words-file.result within c.index-words-file.is [] in
+    let before : World = record {
+      files = g.S.Store.told c.args.store.now;
+      streams = record { input = g.I.Source.told c.args.input.now; out = g.O.Sink.told c.args.out.now; err = g.P.Sink.told c.args.err.now };
+      counts = record { store = g.S.Store.faults c.args.store.now; input = g.I.Source.faults c.args.input.now; out = g.O.Sink.faults c.args.out.now; err = g.P.Sink.faults c.args.err.now };
+    } in
+    let now : World = record {
+      files = g.S.Store.told c.print.new.store;
+      streams = record { input = g.I.Source.told c.args.input.now; out = g.O.Sink.told c.print.new.out; err = g.P.Sink.told c.args.err.now };
+      counts = record { store = g.S.Store.faults c.print.new.store; input = g.I.Source.faults c.args.input.now; out = g.O.Sink.faults c.print.new.out; err = g.P.Sink.faults c.args.err.now };
+    } in
+    print_kept (task_in words) words task.kind task.file c.index-words-file.result c.print.result before now is named
+    (record {
+      says = c.print.ensures.says;
+      out = c.print.ensures.same;
+      input = refl;
+      err = refl;
+      only = c.print.ensures.only;
+      files = c.print.ensures.files;
+      store = c.print.ensures.store_count;
+    })

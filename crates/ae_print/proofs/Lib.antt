@@ -1,0 +1,4 @@
+pub mod Putting
+pub mod Joined
+pub mod Rows
+pub mod Wrapped

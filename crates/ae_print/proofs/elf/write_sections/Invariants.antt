@@ -1,0 +1,9 @@
+use Rattle.std.proofs.Common.{Ok}
+use Rattle.ae_nums.specs.Lines.{Puts}
+use Rattle.ae_print.specs.ElfText.{section_line}
+use Rattle.ae_print.proofs.Rows.{lines_before}
+use Rattle.ae_print.proofs.elf.write_sections.Given as goal
+
+abbrev pub invariant-loop-place : goal.invariant-loop-place
+invariant-loop-place g l =
+    Puts g.K.Sink.told g.K.Sink.faults g.K.Sink.same_rest l.initial.lines l.lines (lines_before section_line l.sections l.place) (Ok tt)
