@@ -2,19 +2,23 @@
 //
 //   yardstick count TURNS          counts down TURNS times
 //   yardstick lines TURNS FILE     writes the trace of so many turns, in pieces of 4096 bytes
+//   yardstick NAME TURNS           runs a loop of loops.c, and prints its number
 #include <fcntl.h>
+#include <stdio.h>
 #include <stdlib.h>
 #include <string.h>
 #include <unistd.h>
 
-static char room[4096];
+#include "loops.c"
+
+static char buffer[4096];
 static size_t used;
 static int file;
 
 static void hand_on(void) {
   size_t sent = 0;
   while (sent < used) {
-    ssize_t more = write(file, room + sent, used - sent);
+    ssize_t more = write(file, buffer + sent, used - sent);
     if (more <= 0) exit(1);
     sent += (size_t)more;
   }
@@ -23,11 +27,21 @@ static void hand_on(void) {
 
 static void line(unsigned address) {
   static const char digits[] = "0123456789abcdef";
-  if (used + 11 > sizeof room) hand_on();
-  room[used++] = 'I';
-  room[used++] = ' ';
-  for (int at = 28; at >= 0; at -= 4) room[used++] = digits[address >> at & 15];
-  room[used++] = '\n';
+  if (used + 11 > sizeof buffer) hand_on();
+  buffer[used++] = 'I';
+  buffer[used++] = ' ';
+  for (int at = 28; at >= 0; at -= 4) buffer[used++] = digits[address >> at & 15];
+  buffer[used++] = '\n';
+}
+
+// Whether there is a loop of this name.
+static int run_loop(const char *name, unsigned turns) {
+  unsigned (*loop)(unsigned) = 0;
+  if (strcmp(name, "arithmetic") == 0) loop = arithmetic;
+  if (strcmp(name, "memory") == 0) loop = memory;
+  if (strcmp(name, "calls") == 0) loop = calls;
+  if (loop) printf("%u\n", loop(turns));
+  return loop != 0;
 }
 
 int main(int count, char **words) {
@@ -37,6 +51,7 @@ int main(int count, char **words) {
     for (unsigned left = turns; left; left--) __asm__ volatile("" : "+r"(left));
     return 0;
   }
+  if (run_loop(words[1], turns)) return 0;
   if (count < 4) return 2;
   file = open(words[3], O_WRONLY | O_CREAT | O_TRUNC, 0666);
   if (file < 0) return 1;
