@@ -1,10 +1,12 @@
-pub mod Levels
-pub mod Apart
-pub mod Registers
-pub mod InOrder
-pub mod Placed
-pub mod Sample
-pub mod WordFields
-pub mod Encoded
-pub mod Decoded
-pub mod Masks
+pub mod LawsOfLists
+pub mod LawsOfRows
+mod Levels
+mod Apart
+mod Registers
+pub mod LawsOfPlaces
+pub mod LawsOfLookUps
+mod Sample
+mod WordFields
+mod Encoded
+mod Decoded
+mod Masks

@@ -3,12 +3,12 @@
 use Rattle.std.specs.Prelude.{◌≡◌, ◌⊎◌, ℕ, ◌+◌, ◌-◌, ◌*◌, ◌%◌, ◌^◌, ◌<◌, ◌≤◌, Bool, List, [], ◌∷◌, length, map, take, drop, sum, ⊤, IfSome, is_some, nat_lt, IsTrue}
 use Rattle.std.specs.List.{Any, AllByRecursion, filter, flat_map}
 use Rattle.std.specs.List.Sorted.{IsStrictlyIncreasing}
-use Rattle.rv_code.specs.declared.image.Image.{Image}
 use Rattle.rv_code.specs.declared.image.Region.{Region}
 use Rattle.rv_code.specs.declared.image.Range.{Range}
 use Rattle.rv_code.specs.declared.image.Name.{Name}
 use Rattle.rv_code.specs.declared.image.Note.{Note}
 use Rattle.rv_code.specs.declared.image.Mark.{Mark}
+use Rattle.rv_code.specs.ImageParts.{ImageParts}
 use Rattle.rv_code.specs.Numbers.{IsByte, IsWord, bytes_of}
 use Rattle.rv_code.specs.Limits.{mapped_limit, regions_limit, ranges_limit, words_limit}
 use Rattle.rv_code.specs.Addresses.{stack_start, tracer_start}
@@ -68,14 +68,14 @@ mapped_length regions = sum (map region_length (filter (λ (region : Region). na
 abbrev pub word_count : List Range → ℕ
 word_count ranges = sum (map (λ (range : Range). length range.words) ranges)
 
-pub record IsWithinLimits (image : Image) : Type 0 where
+pub record IsWithinLimits (image : ImageParts) : Type 0 where
   pub mapped : mapped_length image.regions ≤ mapped_limit
   pub regions : length image.regions ≤ regions_limit (is_some image.note)
   pub ranges : length image.code ≤ ranges_limit
   pub words : word_count image.code ≤ words_limit (is_some image.note)
 
 -- an image that an accepted executable may have
-pub record IsImage (image : Image) : Type 0 where
+pub record IsImage (image : ImageParts) : Type 0 where
   pub regions : AllByRecursion (IsRegion (is_some image.note)) image.regions
   pub regions_rise : RegionsRise image.regions
   pub ranges : AllByRecursion (IsRange image.regions) image.code

@@ -8,7 +8,7 @@ use Rattle.rv_code.specs.declared.instr.Instr.{Instr}
 use Rattle.rv_code.specs.Code.{is_code}
 use Rattle.rv_code.specs.Encoding.{Fits, word_of}
 use Rattle.rv_code.specs.Numbers.{IsWord}
-use Rattle.rv_code.specs.Places.{code_addresses, place_of, address_of, AreRuns, runs_of}
+use Rattle.rv_code.specs.Places.{code_addresses, place_of, address_of, AreCodeExtents, extents_at}
 use Rattle.rv_code.specs.Table.{Entry, instruction_table, agrees, read_as, meaning_of}
 
 -- the word means the form of each entry that it agrees with
@@ -43,7 +43,7 @@ AddressesRise extents =
     (place later address higher : ℕ) → place < later → address_of extents place ≡ Some address → address_of extents later ≡ Some higher → address < higher
 
 -- addresses that rise, each a multiple of 4, are those of the code words of some extents
-abbrev pub HaveRuns : List ℕ → Type 0
-HaveRuns addresses =
+abbrev pub HaveExtents : List ℕ → Type 0
+HaveExtents addresses =
     IsStrictlyIncreasing addresses → AllByRecursion (λ address. address % 4 ≡ 0) addresses
-    → AreRuns (runs_of addresses) × (code_addresses (runs_of addresses) ≡ addresses)
+    → AreCodeExtents (extents_at addresses) × (code_addresses (extents_at addresses) ≡ addresses)

@@ -1,3 +1,4 @@
+pub mod Ordered
 pub mod Numbers
 pub mod Fields
 pub mod Table
@@ -10,5 +11,8 @@ pub mod Addresses
 pub mod Code
 pub mod Places
 pub mod Limits
+pub mod ImageParts
+pub mod ImageView
 pub mod Image
 pub mod Endings
+pub mod Ways

@@ -22,7 +22,7 @@ abbrev pub address_of : List Extent → ℕ → Option ℕ
 address_of extents place = slice_get (code_addresses extents) place
 
 -- An extent of code words is not empty and starts at a multiple of 4.
-pub record IsRun (extent : Extent) : Type 0 where
+pub record IsCodeExtent (extent : Extent) : Type 0 where
   pub some : 0 < extent.count
   pub aligned : extent.start % 4 ≡ 0
 
@@ -37,8 +37,8 @@ ExtentsRise (extent ∷ []) = ⊤
 ExtentsRise (extent ∷ next ∷ extents) = (extent_end extent < next.start) × ExtentsRise (next ∷ extents)
 
 -- extents as an image has them
-pub record AreRuns (extents : List Extent) : Type 0 where
-  pub each : AllByRecursion IsRun extents
+pub record AreCodeExtents (extents : List Extent) : Type 0 where
+  pub each : AllByRecursion IsCodeExtent extents
   pub rise : ExtentsRise extents
 
 -- an address before extents that stand behind it: their first grows where the two touch
@@ -49,6 +49,6 @@ put_before address (extent ∷ extents) =
     else record { start = address; count = 1 } ∷ extent ∷ extents
 
 -- the extents of addresses that rise: those that touch stand in one
-abbrev pub runs_of : List ℕ → List Extent
-runs_of [] = []
-runs_of (address ∷ addresses) = put_before address (runs_of addresses)
+abbrev pub extents_at : List ℕ → List Extent
+extents_at [] = []
+extents_at (address ∷ addresses) = put_before address (extents_at addresses)

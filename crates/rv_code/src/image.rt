@@ -1,4 +1,5 @@
 use crate::ListOf;
+use std::marker::Model;
 
 /// What an executable puts into memory, which of it is code, and what its symbols and relocations name.
 ///
@@ -17,6 +18,19 @@ pub struct Image {
     pub named: ListOf<u32>,
     /// What a rewritten executable says of itself.
     pub note: Option<Note>,
+}
+
+impl Model for Image {
+    ghost use Rattle.rv_code.specs.ImageParts.{ImageParts};
+    ghost use Rattle.rv_code.specs.Image.{IsImage};
+
+    ghost Value = { ImageParts };
+
+    ghost use Rattle.rv_code.specs.ImageView.{image_parts};
+
+    ghost view = { image_parts };
+
+    ghost invariant = { λ image. IsImage (image_parts image) };
 }
 
 /// A loaded segment: its bytes, and then so many zero bytes.

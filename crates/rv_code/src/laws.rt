@@ -1,7 +1,11 @@
 //! Laws of the instruction table, of encoding and of the places of code words, each the contract of a function that does nothing.
 ghost use Rattle.std.specs.Prelude.{◌≡◌, ℕ, List};
-ghost use Rattle.rv_code.specs.Laws.{MeansItsEntry, AgreesWithNone, HasItsWord, IsItsWord, PlacesHaveAddresses, CodeHasPlaces, AddressesRise, HaveRuns};
-ghost use Rattle.rv_code.specs.Places.{code_addresses, AreRuns, runs_of};
+ghost use Rattle.std.specs.List.{AllByRecursion};
+ghost use Rattle.rv_code.specs.Code.{extents_of};
+ghost use Rattle.rv_code.specs.Image.{IsImage};
+ghost use Rattle.rv_code.specs.ImageParts.{ImageParts};
+ghost use Rattle.rv_code.specs.Laws.{MeansItsEntry, AgreesWithNone, HasItsWord, IsItsWord, PlacesHaveAddresses, CodeHasPlaces, AddressesRise, HaveExtents};
+ghost use Rattle.rv_code.specs.Places.{code_addresses, AreCodeExtents, EndsInSpace, extents_at};
 ghost use Rattle.rv_code.specs.Table.{instruction_table, meaning_of, AreApart};
 
 use crate::{Extent, Instr};
@@ -28,13 +32,20 @@ pub fn words_and_instructions_agree()
 /// The code words of an image have places from 0 on, in the order of their addresses: a place's address has that place, an
 /// address has a place exactly where a code word stands at it, and addresses rise with places.
 pub fn places_are_in_order()
-    ensures addresses { (extents : List Extent) → AreRuns extents → PlacesHaveAddresses extents }
-    ensures code { (extents : List Extent) → AreRuns extents → CodeHasPlaces extents }
-    ensures rise { (extents : List Extent) → AreRuns extents → AddressesRise extents }
+    ensures addresses { (extents : List Extent) → AreCodeExtents extents → PlacesHaveAddresses extents }
+    ensures code { (extents : List Extent) → AreCodeExtents extents → CodeHasPlaces extents }
+    ensures rise { (extents : List Extent) → AreCodeExtents extents → AddressesRise extents }
 {}
 
 /// The extents of code words and the addresses of these words say the same: each can be found again in the other.
-pub fn runs_are_found_again()
-    ensures runs { (extents : List Extent) → AreRuns extents → runs_of (code_addresses extents) ≡ extents }
-    ensures addresses { (addresses : List ℕ) → HaveRuns addresses }
+pub fn extents_are_found_again()
+    ensures extents { (extents : List Extent) → AreCodeExtents extents → extents_at (code_addresses extents) ≡ extents }
+    ensures addresses { (addresses : List ℕ) → HaveExtents addresses }
+{}
+
+/// The code words of an image stand in order: its ranges are such extents as the other laws ask for, and end within the address
+/// space.
+pub fn images_have_their_code_in_order()
+    ensures order { (image : ImageParts) → IsImage image → AreCodeExtents (extents_of image.code) }
+    ensures ends { (image : ImageParts) → IsImage image → AllByRecursion EndsInSpace (extents_of image.code) }
 {}

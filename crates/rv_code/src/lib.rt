@@ -13,13 +13,15 @@ mod extent;
 mod image;
 mod instr;
 mod laws;
+mod limits;
+mod lists;
 mod parts;
 mod places;
 mod results;
 #[cfg(test)]
 mod tests;
+mod ways;
 
-pub use ae_lists::ListOf;
 pub use class::Class;
 pub use decoder::decode;
 pub use encoder::{encode, fits};
@@ -28,8 +30,15 @@ pub use extent::Extent;
 pub use image::{Image, Mark, Name, Note, Range, Region};
 pub use instr::{BranchOp, ImmOp, Instr, LoadOp, RegOp, StoreOp};
 pub use laws::{
-    a_word_means_its_entry, no_word_agrees_with_two, places_are_in_order, runs_are_found_again,
-    words_and_instructions_agree,
+    a_word_means_its_entry, extents_are_found_again, images_have_their_code_in_order,
+    no_word_agrees_with_two, places_are_in_order, words_and_instructions_agree,
 };
+pub use limits::{
+    MAPPED_LIMIT, NOTED_REGIONS_LIMIT, NOTED_WORDS_LIMIT, RANGES_LIMIT, REGIONS_LIMIT,
+    STACK_LENGTH, STACK_START, TRACER_START, WORDS_LIMIT,
+};
+pub use lists::ListOf;
 pub use parts::{class_of, reads, target, writes};
+pub use places::{address_in, count_in, place_in, word_in};
 pub use results::{is_taken, on_registers, op_result, result_of};
+pub use ways::{ends_a_run, falls, way_to};

@@ -3,8 +3,8 @@
 ghost use Rattle.std.specs.Prelude.{◌≡◌, ◌<◌, ◌≤◌, ◌^◌, IfSome, is_some, length, nat_lt};
 ghost use Rattle.std.specs.List.{AllByRecursion};
 ghost use Rattle.rv_code.specs.Code.{extent_of, extents_of, is_code, is_word_of, code_word};
-ghost use Rattle.rv_code.specs.Image.{IsImage, word_count};
-ghost use Rattle.rv_code.specs.Places.{code_addresses, place_of, address_of, EndsInSpace, IsRun};
+ghost use Rattle.rv_code.specs.Image.{word_count};
+ghost use Rattle.rv_code.specs.Places.{code_addresses, place_of, address_of, EndsInSpace, IsCodeExtent};
 
 use crate::{Image, Range};
 
@@ -27,7 +27,8 @@ impl Range {
     }
 }
 
-fn word_in(ranges: &[Range], address: u32) -> Option<u32>
+/// The code word of these ranges at the address. `None` exactly where no word of theirs stands there.
+pub fn word_in(ranges: &[Range], address: u32) -> Option<u32>
     ensures { result ≡ code_word ranges.now address }
 {
     match ranges {
@@ -42,8 +43,10 @@ fn word_in(ranges: &[Range], address: u32) -> Option<u32>
     }
 }
 
-fn place_in(ranges: &[Range], address: u32) -> Option<u32>
-    requires runs { AllByRecursion IsRun (extents_of ranges.now) }
+/// The place of the code word at the address, among the words of these ranges in order. `None` exactly where no word of theirs
+/// stands there.
+pub fn place_in(ranges: &[Range], address: u32) -> Option<u32>
+    requires extents { AllByRecursion IsCodeExtent (extents_of ranges.now) }
     requires words { word_count ranges.now < 2 ^ 32 }
     ensures place { result ≡ place_of (extents_of ranges.now) address }
     ensures below { IfSome result (λ place. place < word_count ranges.now) }
@@ -60,7 +63,8 @@ fn place_in(ranges: &[Range], address: u32) -> Option<u32>
     }
 }
 
-fn address_in(ranges: &[Range], place: u32) -> Option<u32>
+/// The address of the code word at the place, among the words of these ranges in order. `None` exactly where there are fewer words.
+pub fn address_in(ranges: &[Range], place: u32) -> Option<u32>
     requires ends { AllByRecursion EndsInSpace (extents_of ranges.now) }
     requires words { word_count ranges.now < 2 ^ 32 }
     ensures { result ≡ address_of (extents_of ranges.now) place }
@@ -78,7 +82,8 @@ fn address_in(ranges: &[Range], place: u32) -> Option<u32>
     }
 }
 
-fn count_in(ranges: &[Range]) -> u32
+/// How many code words these ranges have.
+pub fn count_in(ranges: &[Range]) -> u32
     requires { word_count ranges.now < 2 ^ 32 }
     ensures { result ≡ word_count ranges.now }
 {
@@ -100,7 +105,6 @@ impl Image {
 
     /// The place of the code word at the address. `None` exactly where the address is that of no code word.
     pub fn place_of(&self, address: u32) -> Option<u32>
-        requires { IsImage self.now }
         ensures place { result ≡ place_of (extents_of self.now.code) address }
         ensures code { is_some result ≡ is_code (extents_of self.now.code) address }
     {
@@ -109,7 +113,6 @@ impl Image {
 
     /// The address of the code word at the place. `None` exactly where the place is at least the number of code words.
     pub fn address_of(&self, place: u32) -> Option<u32>
-        requires { IsImage self.now }
         ensures address { result ≡ address_of (extents_of self.now.code) place }
         ensures within { is_some result ≡ nat_lt place (word_count self.now.code) }
     {
@@ -118,7 +121,6 @@ impl Image {
 
     /// How many code words there are.
     pub fn count(&self) -> u32
-        requires { IsImage self.now }
         ensures words { result ≡ word_count self.now.code }
         ensures addresses { result ≡ length (code_addresses (extents_of self.now.code)) }
     {

@@ -96,6 +96,7 @@ fn signed_less(a: u32, b: u32) -> u32
 }
 
 /// What an operation on two registers gives, of their values (manual, sections 2.4.2, 13.1 and 13.2).
+#[inline(always)]
 pub fn op_result(op: RegOp, a: u32, b: u32) -> u32
     ensures { result ≡ op_result op a b }
 {
@@ -122,6 +123,7 @@ pub fn op_result(op: RegOp, a: u32, b: u32) -> u32
 }
 
 /// The operation on two registers that an operation on an immediate is.
+#[inline(always)]
 pub fn on_registers(op: ImmOp) -> RegOp
     ensures { result ≡ on_registers op }
 {
@@ -164,6 +166,7 @@ pub fn result_of(instr: &Instr, address: u32, a: u32, b: u32) -> u32
 }
 
 /// Whether a branch on these values is taken (manual, section 2.5.2).
+#[inline(always)]
 pub fn is_taken(op: BranchOp, a: u32, b: u32) -> bool
     ensures { result ≡ is_taken op a b }
 {

@@ -1,5 +1,4 @@
-ghost use Rattle.std.specs.Prelude.{◌≡◌, IfOk};
-ghost use Rattle.rv_code.specs.Image.{IsImage};
+mod lists;
 
 use crate::{
     BranchOp, Class, Image, ImmOp, Instr, ListOf, LoadOp, Range, RegOp, Region, StoreOp, class_of,
@@ -108,83 +107,6 @@ const FORMATS: [(u32, Instr); 19] = [
     (0x0010_0073, Instr::Ebreak),
 ];
 
-#[test]
-fn reads_each_format(rt: HostRuntime) {
-    for (word, want) in FORMATS {
-        assert_eq!(rt; decode(word), want, "at {word:08x}");
-    }
-}
-
-#[test]
-fn reads_branches_loads_and_stores(rt: HostRuntime) {
-    let table = [
-        (0x0000_0263, branch(BranchOp::Beq, 0, 0, 4)),
-        (0xfe03_18e3, branch(BranchOp::Bne, 6, 0, -16)),
-        (0xfe02_9ae3, branch(BranchOp::Bne, 5, 0, -12)),
-        (0x7e83_cfe3, branch(BranchOp::Blt, 7, 8, 4094)),
-        (0x801f_d063, branch(BranchOp::Bge, 31, 1, -4096)),
-        (0x01f0_e0e3, branch(BranchOp::Bltu, 1, 31, 2048)),
-        (0xfe31_7fe3, branch(BranchOp::Bgeu, 2, 3, -2)),
-        (0xfff1_0083, load(LoadOp::Lb, 1, 2, -1)),
-        (0x7ff2_1183, load(LoadOp::Lh, 3, 4, 2047)),
-        (0x0002_a383, load(LoadOp::Lw, 7, 5, 0)),
-        (0x0003_ce83, load(LoadOp::Lbu, 29, 7, 0)),
-        (0x8005_5483, load(LoadOp::Lhu, 9, 10, -2048)),
-        (0xfff0_8fa3, store(StoreOp::Sb, 1, 31, -1)),
-        (0x7e41_9fa3, store(StoreOp::Sh, 3, 4, 2047)),
-        (0x0011_2623, store(StoreOp::Sw, 2, 1, 12)),
-        (0x81ef_a023, store(StoreOp::Sw, 31, 30, -2048)),
-    ];
-    for (word, want) in table {
-        assert_eq!(rt; decode(word), want, "at {word:08x}");
-    }
-}
-
-#[test]
-fn reads_operations(rt: HostRuntime) {
-    let on_immediates = [
-        (0x05d0_0893, op_imm(ImmOp::Addi, 17, 0, 93)),
-        (0xff01_0113, op_imm(ImmOp::Addi, 2, 2, -16)),
-        (0x8001_2093, op_imm(ImmOp::Slti, 1, 2, -2048)),
-        (0x7ff2_3193, op_imm(ImmOp::Sltiu, 3, 4, 2047)),
-        (0xfff3_4293, op_imm(ImmOp::Xori, 5, 6, -1)),
-        (0x5554_6393, op_imm(ImmOp::Ori, 7, 8, 1365)),
-        (0x7fc9_7313, op_imm(ImmOp::Andi, 6, 18, 2044)),
-        (0x0001_1093, op_imm(ImmOp::Slli, 1, 2, 0)),
-        (0x01f2_9293, op_imm(ImmOp::Slli, 5, 5, 31)),
-        (0x01f2_5193, op_imm(ImmOp::Srli, 3, 4, 31)),
-        (0x0003_d313, op_imm(ImmOp::Srli, 6, 7, 0)),
-        (0x41f4_d413, op_imm(ImmOp::Srai, 8, 9, 31)),
-        (0x4005_d513, op_imm(ImmOp::Srai, 10, 11, 0)),
-    ];
-    for (word, want) in on_immediates {
-        assert_eq!(rt; decode(word), want, "at {word:08x}");
-    }
-    let on_registers = [
-        (0x007e_0e33, op(RegOp::Add, 28, 28, 7)),
-        (0x4031_00b3, op(RegOp::Sub, 1, 2, 3)),
-        (0x0062_9233, op(RegOp::Sll, 4, 5, 6)),
-        (0x0094_23b3, op(RegOp::Slt, 7, 8, 9)),
-        (0x00c5_b533, op(RegOp::Sltu, 10, 11, 12)),
-        (0x00f7_46b3, op(RegOp::Xor, 13, 14, 15)),
-        (0x0128_d833, op(RegOp::Srl, 16, 17, 18)),
-        (0x415a_59b3, op(RegOp::Sra, 19, 20, 21)),
-        (0x018b_eb33, op(RegOp::Or, 22, 23, 24)),
-        (0x01bd_7cb3, op(RegOp::And, 25, 26, 27)),
-        (0x03ee_8e33, op(RegOp::Mul, 28, 29, 30)),
-        (0x03df_1fb3, op(RegOp::Mulh, 31, 30, 29)),
-        (0x022f_a0b3, op(RegOp::Mulhsu, 1, 31, 2)),
-        (0x03f0_b1b3, op(RegOp::Mulhu, 3, 1, 31)),
-        (0x0262_c3b3, op(RegOp::Div, 7, 5, 6)),
-        (0x0202_de33, op(RegOp::Divu, 28, 5, 0)),
-        (0x02a4_e433, op(RegOp::Rem, 8, 9, 10)),
-        (0x02d6_75b3, op(RegOp::Remu, 11, 12, 13)),
-    ];
-    for (word, want) in on_registers {
-        assert_eq!(rt; decode(word), want, "at {word:08x}");
-    }
-}
-
 const OTHER_WORDS: [u32; 33] = [
     0x0000_0000,
     0xffff_ffff,
@@ -227,13 +149,6 @@ const OTHER_WORDS: [u32; 33] = [
     0x1000_202f,
     0x0000_2007,
 ];
-
-#[test]
-fn refuses_other_words(rt: HostRuntime) {
-    for word in OTHER_WORDS {
-        assert_eq!(rt; decode(word), Instr::Bad(word), "at {word:08x}");
-    }
-}
 
 #[test]
 fn tells_class_register_and_target(rt: HostRuntime) {
@@ -283,6 +198,7 @@ fn encoded(instr: Instr) -> Option<u32> {
 #[test]
 fn writes_each_format(rt: HostRuntime) {
     for (word, instr) in FORMATS {
+        assert_eq!(rt; decode(word), instr, "at {word:08x}");
         assert_eq!(rt; encoded(instr), Some(word), "of {word:08x}");
     }
     for word in OTHER_WORDS {
@@ -405,9 +321,7 @@ fn tells_what_is_written(rt: HostRuntime) {
 }
 
 /// An image of three ranges, of which two stand in one region with a word between them that is no code.
-fn sample(alloc: Global) -> Result<Image, AllocError>
-    ensures { IfOk result IsImage }
-{
+fn sample(alloc: Global) -> Result<Image, AllocError> {
     let low = Region {
         start: 0x1000,
         bytes: ListOf::from_vec(vec![in alloc;

@@ -1,4 +1,4 @@
-use Rattle.rv_code.proofs.Placed.{place_of-address_of, address_of-place_of, is_some-place_of, address_of-rises}
+use Rattle.rv_code.proofs.LawsOfLookUps.{place_of-address_of, address_of-place_of, is_some-place_of, address_of-rises}
 use Rattle.rv_code.proofs.laws.places_are_in_order.Goals as goal
 
 pub returns : goal.returns

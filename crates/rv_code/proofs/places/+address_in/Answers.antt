@@ -2,7 +2,7 @@
 use Rattle.std.proofs.Common.{sym, ◌∙◌, ap, ◌-◌, arith}
 use Rattle.rv_code.specs.Code.{extents_of}
 use Rattle.rv_code.specs.Places.{address_of}
-use Rattle.rv_code.proofs.Placed.{address_of-here, address_of-behind, others}
+use Rattle.rv_code.proofs.LawsOfLookUps.{address_of-here, address_of-behind, others}
 use Rattle.rv_code.proofs.places.+address_in.Goals as goal
 
 pub returns-then-place-count : goal.returns-then-place-count

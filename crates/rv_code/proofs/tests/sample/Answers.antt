@@ -12,8 +12,8 @@ regions_with ws xs =
 abbrev ranges_with : List ℕ → List ℕ → List ℕ → List Range
 ranges_with ws xs ys = record { start = 0x1000; words = ws } ∷ record { start = 0x100c; words = xs } ∷ record { start = 0x2000; words = ys } ∷ []
 
-pub returns : goal.returns
-returns c =
+pub invariant_of-result : goal.invariant_of-result
+invariant_of-result c =
     let low_bytes : c.from_vec.result ≡ low.bytes = c.from_vec.ensures ∙ c.in_ok-vec.ensures.items in
     let high_bytes : c.from_vec-2.result ≡ high.bytes = c.from_vec-2.ensures ∙ c.in_ok-vec-2.ensures.items in
     let first_words : c.from_vec-3.result ≡ first.words = c.from_vec-3.ensures ∙ c.in_ok-vec-3.ensures.items in

@@ -1,11 +1,13 @@
 -- There is a code word exactly where one stands.
 use Rattle.std.proofs.Common.{ap, ◌∙◌}
 use Rattle.std.specs.Prelude.{is_some}
-use Rattle.rv_code.specs.Code.{code_word}
-use Rattle.rv_code.proofs.Placed.{is_some-code_word}
+use Rattle.rv_code.specs.Code.{code_word, extents_of, is_code}
+use Rattle.rv_code.specs.ImageParts.{ImageParts}
+use Rattle.rv_code.proofs.LawsOfLookUps.{is_some-code_word}
 use Rattle.rv_code.proofs.image.Image.word_at.Goals as goal
 
 pub returns-clause-code : goal.returns-clause-code
 returns-clause-code c =
     ap is_some (c.word_in.ensures ∙ ap (λ ranges. code_word ranges c.args.address) c.as_slice.ensures)
-    ∙ is_some-code_word c.args.self.now.code c.args.address
+    ∙ is_some-code_word c.self.inside.code c.args.address
+    ∙ ap (λ (image : ImageParts). is_code (extents_of image.code) c.args.address) c.self.view_is

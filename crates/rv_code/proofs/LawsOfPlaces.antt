@@ -8,14 +8,14 @@ use Rattle.std.proofs.lemmas.Bool.Decides.{nat_tests}
 use Rattle.std.proofs.lemmas.List.Sums.{sum_by-cons}
 use Rattle.std.proofs.lemmas.List.FromFn.{length-map-range_with_len}
 use Rattle.std.proofs.lemmas.List.Elements.{Contains-append_left, Contains-append_right, Contains-append_cases}
-use Rattle.ae_lists.proofs.Ordered.{Rises, IsStrictlyIncreasing-from_Rises, Rises-from_IsStrictlyIncreasing}
+use Rattle.rv_code.proofs.LawsOfLists.{Rises, IsStrictlyIncreasing-from_Rises, Rises-from_IsStrictlyIncreasing}
 use Rattle.rv_code.specs.declared.extent.Extent.{Extent}
 use Rattle.rv_code.specs.declared.image.Image.{Image}
 use Rattle.rv_code.specs.declared.image.Range.{Range}
 use Rattle.rv_code.specs.Code.{extent_end, extent_of, extents_of, is_word_of, is_code}
 use Rattle.rv_code.specs.declared.image.Region.{Region}
 use Rattle.rv_code.specs.Image.{IsImage, IsRegion, IsRange, RangesRise, region_end, word_count}
-use Rattle.rv_code.specs.Places.{words_of, code_addresses, EndsInSpace, IsRun, ExtentsRise, AreRuns, put_before, runs_of}
+use Rattle.rv_code.specs.Places.{words_of, code_addresses, EndsInSpace, IsCodeExtent, ExtentsRise, AreCodeExtents, put_before, extents_at}
 
 -- so many addresses from a number on, counted from a start
 abbrev pub words_from : (start first count : ℕ) → List ℕ
@@ -70,15 +70,15 @@ by_starts-is_code (extent ∷ extents) address aligned within = elim (Contains-a
   | inr there ↦ or_right (is_word_of extent address) (is_code extents address) (by_starts-is_code extents address aligned.1 there)
 ]
 
-pub starts_aligned : (extents : List Extent) → AllByRecursion IsRun extents → AllByRecursion StartsAligned extents
+pub starts_aligned : (extents : List Extent) → AllByRecursion IsCodeExtent extents → AllByRecursion StartsAligned extents
 starts_aligned [] runs = tt
 starts_aligned (extent ∷ extents) runs = (runs.0.aligned, starts_aligned extents runs.1)
 
 -- a code word stands at an address exactly where the code words' addresses have it
-pub is_code-Contains : (extents : List Extent) (address : ℕ) → AreRuns extents → is_code extents address ≡ true → Contains (code_addresses extents) address
+pub is_code-Contains : (extents : List Extent) (address : ℕ) → AreCodeExtents extents → is_code extents address ≡ true → Contains (code_addresses extents) address
 is_code-Contains extents address runs is = is_code-by_starts extents address (starts_aligned extents runs.each) is
 
-pub Contains-is_code : (extents : List Extent) (address : ℕ) → AreRuns extents → Contains (code_addresses extents) address → is_code extents address ≡ true
+pub Contains-is_code : (extents : List Extent) (address : ℕ) → AreCodeExtents extents → Contains (code_addresses extents) address → is_code extents address ≡ true
 Contains-is_code extents address runs within = by_starts-is_code extents address (starts_aligned extents runs.each) within
 
 Rises-lower : (low high : ℕ) (xs : List ℕ) → low ≤ high → Rises high xs → Rises low xs
@@ -142,13 +142,13 @@ RangesRise-from_extents [] rise = tt
 RangesRise-from_extents (range ∷ []) rise = tt
 RangesRise-from_extents (range ∷ next ∷ ranges) rise = (rise.0, RangesRise-from_extents (next ∷ ranges) rise.1)
 
-each_is_run : (regions : List Region) (ranges : List Range) → AllByRecursion (IsRange regions) ranges → AllByRecursion IsRun (extents_of ranges)
+each_is_run : (regions : List Region) (ranges : List Range) → AllByRecursion (IsRange regions) ranges → AllByRecursion IsCodeExtent (extents_of ranges)
 each_is_run regions [] are = tt
 each_is_run regions (range ∷ ranges) are = (record { some = are.0.some; aligned = are.0.aligned }, each_is_run regions ranges are.1)
 
 -- the extents of an image's code words
-pub IsImage-AreRuns : (image : Image) → IsImage image → AreRuns (extents_of image.code)
-IsImage-AreRuns image is = record { each = each_is_run image.regions image.code is.ranges; rise = ExtentsRise-from_ranges image.code is.ranges_rise }
+pub IsImage-AreCodeExtents : (image : Image) → IsImage image → AreCodeExtents (extents_of image.code)
+IsImage-AreCodeExtents image is = record { each = each_is_run image.regions image.code is.ranges; rise = ExtentsRise-from_ranges image.code is.ranges_rise }
 
 -- the addresses from the next number on are those from an address that lies four further on
 words_from-next : (start first count : ℕ) → words_from start (first + 1) count ≡ words_from (start + 4) first count
@@ -191,10 +191,10 @@ code_addresses-put_before address (extent ∷ extents) =
     (λ _. let first : address + 4 * 0 ≡ address = omega arith in cc)
 
 -- the extents of a list of addresses have these addresses
-pub code_addresses-runs_of : (addresses : List ℕ) → code_addresses (runs_of addresses) ≡ addresses
-code_addresses-runs_of [] = refl
-code_addresses-runs_of (address ∷ addresses) =
-    code_addresses-put_before address (runs_of addresses) ∙ ap (λ rest. address ∷ rest) (code_addresses-runs_of addresses)
+pub code_addresses-extents_at : (addresses : List ℕ) → code_addresses (extents_at addresses) ≡ addresses
+code_addresses-extents_at [] = refl
+code_addresses-extents_at (address ∷ addresses) =
+    code_addresses-put_before address (extents_at addresses) ∙ ap (λ rest. address ∷ rest) (code_addresses-extents_at addresses)
 
 -- the first of the extents, if there is one, starts at an address or above; or not at it
 abbrev StartAbove : ℕ → List Extent → Type 0
@@ -216,26 +216,26 @@ put_before-touching address count extents =
     put_before-cases address (record { start = address + 4; count = count }) extents (λ all. all ≡ record { start = address; count = 1 + count } ∷ extents)
     (λ _. refl) (λ apart. absurd (apart refl))
 
-one_run : (count : ℕ) (start : ℕ) (addresses : List ℕ) (extents : List Extent) → runs_of addresses ≡ extents → StartsElsewhere (start + 4 * suc count) extents
-    → runs_of (words_from start 0 (suc count) ++ addresses) ≡ record { start = start; count = suc count } ∷ extents
-one_run zero start addresses extents same apart =
+one_extent : (count : ℕ) (start : ℕ) (addresses : List ℕ) (extents : List Extent) → extents_at addresses ≡ extents → StartsElsewhere (start + 4 * suc count) extents
+    → extents_at (words_from start 0 (suc count) ++ addresses) ≡ record { start = start; count = suc count } ∷ extents
+one_extent zero start addresses extents same apart =
     let first : start + 4 * 0 ≡ start = omega arith in
     let next : start + 4 * suc 0 ≡ start + 4 = omega arith in
-    subst (λ n. put_before n (runs_of addresses) ≡ record { start = start; count = 1 } ∷ extents) (sym first)
+    subst (λ n. put_before n (extents_at addresses) ≡ record { start = start; count = 1 } ∷ extents) (sym first)
     (subst (λ all. put_before start all ≡ record { start = start; count = 1 } ∷ extents) (sym same)
     (put_before-apart start extents (subst (λ n. StartsElsewhere n extents) next apart)))
-one_run (suc count) start addresses extents same apart =
+one_extent (suc count) start addresses extents same apart =
     let first : start + 4 * 0 ≡ start = omega arith in
     let end : start + 4 * suc (suc count) ≡ start + 4 + 4 * suc count = omega arith in
     let shifted : words_from start (0 + 1) (suc count) ≡ words_from (start + 4) 0 (suc count) = words_from-next start 0 (suc count) in
-    let rest : runs_of (words_from (start + 4) 0 (suc count) ++ addresses) ≡ record { start = start + 4; count = suc count } ∷ extents =
-    one_run count (start + 4) addresses extents same (subst (λ n. StartsElsewhere n extents) end apart)
+    let rest : extents_at (words_from (start + 4) 0 (suc count) ++ addresses) ≡ record { start = start + 4; count = suc count } ∷ extents =
+    one_extent count (start + 4) addresses extents same (subst (λ n. StartsElsewhere n extents) end apart)
     in
-    let moved : runs_of (words_from start (0 + 1) (suc count) ++ addresses) ≡ record { start = start + 4; count = suc count } ∷ extents =
-    ap (λ words. runs_of (words ++ addresses)) shifted ∙ rest
+    let moved : extents_at (words_from start (0 + 1) (suc count) ++ addresses) ≡ record { start = start + 4; count = suc count } ∷ extents =
+    ap (λ words. extents_at (words ++ addresses)) shifted ∙ rest
     in
     let longer : 1 + suc count ≡ suc (suc count) = omega arith in
-    subst (λ n. put_before n (runs_of (words_from start (0 + 1) (suc count) ++ addresses)) ≡ record { start = start; count = suc (suc count) } ∷ extents) (sym first)
+    subst (λ n. put_before n (extents_at (words_from start (0 + 1) (suc count) ++ addresses)) ≡ record { start = start; count = suc (suc count) } ∷ extents) (sym first)
     (ap (put_before start) moved
     ∙ (put_before-touching start (suc count) extents ∙ ap (λ n. record { start = start; count = n } ∷ extents) longer))
 
@@ -247,32 +247,32 @@ pub ExtentsRise-rest : (extent : Extent) (extents : List Extent) → ExtentsRise
 ExtentsRise-rest extent [] rise = tt
 ExtentsRise-rest extent (next ∷ extents) rise = rise.1
 
-found_again : (extents : List Extent) → AllByRecursion IsRun extents → ExtentsRise extents → runs_of (code_addresses extents) ≡ extents
+found_again : (extents : List Extent) → AllByRecursion IsCodeExtent extents → ExtentsRise extents → extents_at (code_addresses extents) ≡ extents
 found_again [] runs rise = refl
 found_again (extent ∷ extents) runs rise =
     let count : suc (extent.count - 1) ≡ extent.count = omega (arith, runs.0.some) in
     let rest = found_again extents runs.1 (ExtentsRise-rest extent extents rise) in
-    let here = one_run (extent.count - 1) extent.start (code_addresses extents) extents rest (elsewhere_from_rise extent extents (extent.start + 4 * suc (extent.count - 1)) (omega arith) rise) in
-    subst (λ n. runs_of (words_from extent.start 0 n ++ code_addresses extents) ≡ record { start = extent.start; count = n } ∷ extents) count here
+    let here = one_extent (extent.count - 1) extent.start (code_addresses extents) extents rest (elsewhere_from_rise extent extents (extent.start + 4 * suc (extent.count - 1)) (omega arith) rise) in
+    subst (λ n. extents_at (words_from extent.start 0 n ++ code_addresses extents) ≡ record { start = extent.start; count = n } ∷ extents) count here
 
 -- the extents are found again in the addresses of their words
-pub runs_of-code_addresses : (extents : List Extent) → AreRuns extents → runs_of (code_addresses extents) ≡ extents
-runs_of-code_addresses extents runs = found_again extents runs.each runs.rise
+pub extents_at-code_addresses : (extents : List Extent) → AreCodeExtents extents → extents_at (code_addresses extents) ≡ extents
+extents_at-code_addresses extents runs = found_again extents runs.each runs.rise
 
 -- what the extents of addresses that rise are
-record RunsAbove (low : ℕ) (extents : List Extent) : Type 0 where
+record ExtentsAbove (low : ℕ) (extents : List Extent) : Type 0 where
   start : StartAbove low extents
-  each : AllByRecursion IsRun extents
+  each : AllByRecursion IsCodeExtent extents
   rise : ExtentsRise extents
 
 same_end-ExtentsRise : (extent other : Extent) (extents : List Extent) → extent_end other ≡ extent_end extent → ExtentsRise (extent ∷ extents) → ExtentsRise (other ∷ extents)
 same_end-ExtentsRise extent other [] same rise = tt
 same_end-ExtentsRise extent other (next ∷ extents) same rise = (omega (arith, rise.0), rise.1)
 
-put_before-RunsAbove : (address : ℕ) (extents : List Extent) → address % 4 ≡ 0 → RunsAbove (address + 1) extents → RunsAbove address (put_before address extents)
-put_before-RunsAbove address [] aligned runs = record { start = omega arith; each = (record { some = omega arith; aligned = aligned }, tt); rise = tt }
-put_before-RunsAbove address (extent ∷ extents) aligned runs =
-    put_before-cases address extent extents (RunsAbove address)
+put_before-ExtentsAbove : (address : ℕ) (extents : List Extent) → address % 4 ≡ 0 → ExtentsAbove (address + 1) extents → ExtentsAbove address (put_before address extents)
+put_before-ExtentsAbove address [] aligned runs = record { start = omega arith; each = (record { some = omega arith; aligned = aligned }, tt); rise = tt }
+put_before-ExtentsAbove address (extent ∷ extents) aligned runs =
+    put_before-cases address extent extents (ExtentsAbove address)
     (λ touches.
     record {
       start = omega arith;
@@ -290,20 +290,20 @@ put_before-RunsAbove address (extent ∷ extents) aligned runs =
       rise = (omega (arith, behind), runs.rise);
     })
 
-runs_of-RunsAbove : (low : ℕ) (addresses : List ℕ) → Rises low addresses → AllByRecursion (λ address. address % 4 ≡ 0) addresses → RunsAbove low (runs_of addresses)
-runs_of-RunsAbove low [] rises aligned = record { start = tt; each = tt; rise = tt }
-runs_of-RunsAbove low (address ∷ addresses) rises aligned =
-    lower low address (put_before address (runs_of addresses)) rises.0
-    (put_before-RunsAbove address (runs_of addresses) aligned.0 (runs_of-RunsAbove (address + 1) addresses rises.1 aligned.1))
+extents_at-ExtentsAbove : (low : ℕ) (addresses : List ℕ) → Rises low addresses → AllByRecursion (λ address. address % 4 ≡ 0) addresses → ExtentsAbove low (extents_at addresses)
+extents_at-ExtentsAbove low [] rises aligned = record { start = tt; each = tt; rise = tt }
+extents_at-ExtentsAbove low (address ∷ addresses) rises aligned =
+    lower low address (put_before address (extents_at addresses)) rises.0
+    (put_before-ExtentsAbove address (extents_at addresses) aligned.0 (extents_at-ExtentsAbove (address + 1) addresses rises.1 aligned.1))
   where
-    lower : (low high : ℕ) (extents : List Extent) → low ≤ high → RunsAbove high extents → RunsAbove low extents
+    lower : (low high : ℕ) (extents : List Extent) → low ≤ high → ExtentsAbove high extents → ExtentsAbove low extents
     lower low high [] below runs = record { start = tt; each = runs.each; rise = runs.rise }
     lower low high (extent ∷ extents) below runs = record { start = omega (arith, runs.start); each = runs.each; rise = runs.rise }
 
 -- the extents of addresses that rise and are multiples of 4
-pub runs_of-AreRuns : (addresses : List ℕ) → IsStrictlyIncreasing addresses → AllByRecursion (λ address. address % 4 ≡ 0) addresses → AreRuns (runs_of addresses)
-runs_of-AreRuns addresses rise aligned =
-    let runs = runs_of-RunsAbove 0 addresses (Rises-from_IsStrictlyIncreasing 0 addresses (λ _. omega arith) rise) aligned in
+pub extents_at-AreCodeExtents : (addresses : List ℕ) → IsStrictlyIncreasing addresses → AllByRecursion (λ address. address % 4 ≡ 0) addresses → AreCodeExtents (extents_at addresses)
+extents_at-AreCodeExtents addresses rise aligned =
+    let runs = extents_at-ExtentsAbove 0 addresses (Rises-from_IsStrictlyIncreasing 0 addresses (λ _. omega arith) rise) aligned in
     record { each = runs.each; rise = runs.rise }
 
 -- a region of an image ends within the address space, and so does each range

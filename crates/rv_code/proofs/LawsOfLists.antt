@@ -14,7 +14,7 @@ use Rattle.std.proofs.lemmas.List.Filters.{dedup_is}
 use Rattle.std.proofs.lemmas.List.Kept.{Contains-dedup_nat, Contains-from_dedup}
 use Rattle.std.proofs.lemmas.List.Recursion.{is_sum_by}
 use Rattle.std.proofs.lemmas.Map.Keys.{IsStrictlyIncreasing-dedup}
-use Rattle.ae_lists.specs.Ordered.{put_in, ordered, rising}
+use Rattle.rv_code.specs.Ordered.{put_in, ordered, rising}
 
 -- `put_in` at a list that isn't empty, by the answer of its test
 at_test : {X : Type 0} (key : X → ℕ) (x y : X) (ys : List X) (P : List X → Type 0)

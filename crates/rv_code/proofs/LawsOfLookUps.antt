@@ -8,13 +8,13 @@ use Rattle.std.proofs.lemmas.Bool.Decides.{nat_tests}
 use Rattle.std.proofs.lemmas.Option.{slice_get_within, slice_get-get_or, slice_get_past, get_or_from_slice_get}
 use Rattle.std.proofs.lemmas.List.Kept.{AllPairs-from_increasing}
 use Rattle.std.proofs.lemmas.List.Sums.{sum_by-cons}
-use Rattle.ae_lists.proofs.Ordered.{Rises, Rises-from_IsStrictlyIncreasing}
+use Rattle.rv_code.proofs.LawsOfLists.{Rises, Rises-from_IsStrictlyIncreasing}
 use Rattle.rv_code.specs.declared.extent.Extent.{Extent}
 use Rattle.rv_code.specs.declared.image.Range.{Range}
 use Rattle.rv_code.specs.Code.{extent_of, extents_of, is_word_of, is_code, code_word}
 use Rattle.rv_code.specs.Image.{word_count}
-use Rattle.rv_code.specs.Places.{words_of, code_addresses, place_of, address_of, IsRun, ExtentsRise}
-use Rattle.rv_code.proofs.InOrder.{words_from, length-words_of, Contains-is_word_of, code_addresses-IsStrictlyIncreasing, length-code_addresses_of_ranges}
+use Rattle.rv_code.specs.Places.{words_of, code_addresses, place_of, address_of, IsCodeExtent, ExtentsRise}
+use Rattle.rv_code.proofs.LawsOfPlaces.{words_from, length-words_of, Contains-is_word_of, code_addresses-IsStrictlyIncreasing, length-code_addresses_of_ranges}
 
 -- the place of a number in a list, by recursion
 abbrev place_in : List ℕ → ℕ → Option ℕ
@@ -200,7 +200,7 @@ is_some-option_map f None = refl
 is_some-option_map f (Some place) = refl
 
 -- a code word has a place
-pub is_some-place_of : (extents : List Extent) (address : ℕ) → AllByRecursion IsRun extents → is_some (place_of extents address) ≡ is_code extents address
+pub is_some-place_of : (extents : List Extent) (address : ℕ) → AllByRecursion IsCodeExtent extents → is_some (place_of extents address) ≡ is_code extents address
 is_some-place_of [] address runs = refl
 is_some-place_of (extent ∷ extents) address runs =
     let rest : is_some (option_map (λ place. extent.count + place) (place_of extents address)) ≡ is_code extents address =
@@ -243,21 +243,21 @@ first_and_others (first ∷ rest) range some is =
     cc
 
 -- a search over ranges, at the first of them and behind it
-pub place_of-here : (ranges : List Range) (range : Range) (address : ℕ) → 1 ≤ length ranges → range ≡ get_or ranges 0 range → AllByRecursion IsRun (extents_of ranges)
+pub place_of-here : (ranges : List Range) (range : Range) (address : ℕ) → 1 ≤ length ranges → range ≡ get_or ranges 0 range → AllByRecursion IsCodeExtent (extents_of ranges)
     → is_word_of (extent_of range) address ≡ true → place_of (extents_of ranges) address ≡ Some ((address - range.start) / 4)
 place_of-here ranges range address some is runs here =
     let whole = first_and_others ranges range some is in
-    let first = subst (λ all. AllByRecursion IsRun (extents_of all)) whole runs in
+    let first = subst (λ all. AllByRecursion IsCodeExtent (extents_of all)) whole runs in
     ap (λ all. place_of (extents_of all) address) whole
     ∙ (place_of-cons (extent_of range) (extents_of (others ranges)) address first.0.aligned
     ∙ ap (λ b. cond b (Some ((address - range.start) / 4)) (option_map (λ place. length range.words + place) (place_of (extents_of (others ranges)) address))) here)
 
-pub place_of-behind : (ranges : List Range) (range : Range) (address : ℕ) (found : Option ℕ) → 1 ≤ length ranges → range ≡ get_or ranges 0 range → AllByRecursion IsRun (extents_of ranges)
+pub place_of-behind : (ranges : List Range) (range : Range) (address : ℕ) (found : Option ℕ) → 1 ≤ length ranges → range ≡ get_or ranges 0 range → AllByRecursion IsCodeExtent (extents_of ranges)
     → is_word_of (extent_of range) address ≡ false → found ≡ place_of (extents_of (others ranges)) address
     → place_of (extents_of ranges) address ≡ option_map (λ place. length range.words + place) found
 place_of-behind ranges range address found some is runs elsewhere same =
     let whole = first_and_others ranges range some is in
-    let first = subst (λ all. AllByRecursion IsRun (extents_of all)) whole runs in
+    let first = subst (λ all. AllByRecursion IsCodeExtent (extents_of all)) whole runs in
     ap (λ all. place_of (extents_of all) address) whole
     ∙ (place_of-cons (extent_of range) (extents_of (others ranges)) address first.0.aligned
     ∙ (ap (λ b. cond b (Some ((address - range.start) / 4)) (option_map (λ place. length range.words + place) (place_of (extents_of (others ranges)) address))) elsewhere

@@ -1,5 +1,5 @@
 ghost use Rattle.std.specs.Prelude.{◌≡◌, ◌≢◌, AllPairs};
-ghost use Rattle.ae_lists.specs.Ordered.{ordered, rising};
+ghost use Rattle.rv_code.specs.Ordered.{ordered, rising};
 
 use crate::ListOf;
 use std::test::Fail;
