@@ -1,3 +1,5 @@
-pub mod Finished
-pub mod Places
-pub mod Reading
+pub mod LawsOfTraces
+pub mod LawsOfWriters
+mod Places
+mod Reading
+mod Written

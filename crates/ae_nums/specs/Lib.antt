@@ -3,6 +3,5 @@ pub mod Decimal
 pub mod Trace
 pub mod Taken
 pub mod Writer
-pub mod Gathering
-pub mod Lines
 pub mod Spans
+pub mod scaffolding

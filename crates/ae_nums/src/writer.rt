@@ -1,9 +1,7 @@
-ghost use Rattle.std.specs.Prelude.{◌≡◌, ◌+◌, ◌≤◌, [], ◌∷◌, ◌++◌, length, true, false, OnOk, OnErr, refl};
+ghost use Rattle.std.specs.Prelude.{◌≡◌, ℕ, ◌≤◌, List, [], ◌++◌, length, true, false, OnOk, OnErr, refl};
 ghost use Rattle.std.proofs.Common.{◌∙◌};
 ghost use Rattle.ae_ports.specs.Fault.{HasCause};
 ghost use Rattle.ae_nums.specs.Trace.{trace_text};
-ghost use Rattle.ae_nums.specs.Writer.{Wrote, SameSink};
-ghost use Rattle.ae_nums.specs.Gathering.{wrote_nothing, wrote_lines};
 
 use crate::room::Room;
 use crate::{Item, Taker, item_line};
@@ -12,7 +10,8 @@ use ae_ports::{Failed, Sink, write_all};
 /// A writer of lines to a sink, which is lent to it. It is a taker too, which writes the line of each item of a trace.
 ///
 /// What is written is gathered, and goes to the sink when there is no room for more, and at [`finish`](LineWriter::finish).
-/// Once the sink has failed nothing goes to it any more, so what it has is a front of what was written.
+/// Once the sink has failed nothing goes to it any more. So what it has is at each moment a front of what was written, and a
+/// writer that is let go without `finish` leaves it at that.
 #[derive(Drop)]
 pub struct LineWriter<'a, K: Sink> {
     sink: &'a mut K,
@@ -21,13 +20,13 @@ pub struct LineWriter<'a, K: Sink> {
 }
 
 impl<'a, K: Sink> LineWriter<'a, K> {
-    ghost use Rattle.ae_nums.specs.Lines.{gathered, Puts};
+    ghost use Rattle.ae_nums.specs.Writer.{Written, Wrote, Puts, Finished, SameSink};
 
     /// A writer to which nothing was written.
     pub fn new(sink: &'a mut K) -> LineWriter<'a, K>
         ensures loan { result.sink.ghost_name ≡ sink.entry.ghost_name }
         ensures sink { result.sink.now ≡ sink.old }
-        ensures empty { result.waiting ≡ [] }
+        ensures begun { Written K.told K.faults sink.old result [] }
         ensures whole { result.broken ≡ false }
     {
         LineWriter {
@@ -52,9 +51,11 @@ impl<'a, K: Sink> LineWriter<'a, K> {
     }
 
     /// Hands what was gathered to the sink. It answers `Failed` where the sink fails, and where it failed before: then
-    /// nothing goes to it.
+    /// nothing goes to it. Nothing waits any more.
     pub fn finish(&mut self) -> Result<(), Failed>
-        ensures written { Wrote (gathered K.told K.faults self.old) (gathered K.told K.faults self.new) [] }
+        ensures finished { (start : K) (text : List ℕ) → Written K.told K.faults start self.old text →
+            Finished K.told K.faults start self.new.sink.now text result }
+        ensures written { Wrote K.told K.faults self.old self.new [] }
         ensures whole { OnOk result (self.new.broken ≡ false) }
         ensures empty { OnOk result (self.new.waiting ≡ []) }
         ensures broken { OnErr result (self.new.broken ≡ true) }
@@ -70,7 +71,7 @@ impl<'a, K: Sink> LineWriter<'a, K> {
     // Hands what was gathered to a sink that hasn't failed, and empties the room.
     fn hand_on(&mut self) -> Result<(), Failed>
         requires { self.old.broken ≡ false }
-        ensures written { Wrote (gathered K.told K.faults self.old) (gathered K.told K.faults self.new) [] }
+        ensures written { Wrote K.told K.faults self.old self.new [] }
         ensures whole { OnOk result (self.new.broken ≡ false) }
         ensures empty { self.new.waiting ≡ [] }
         ensures broken { OnErr result (self.new.broken ≡ true) }
@@ -88,8 +89,8 @@ impl<'a, K: Sink> LineWriter<'a, K> {
     fn gather(&mut self, text: &[u8]) -> Result<(), Failed>
         requires whole { self.old.broken ≡ false }
         requires short { length text.now ≤ 4096 }
-        ensures ok { OnOk result (Wrote (gathered K.told K.faults self.old) (gathered K.told K.faults self.new) text.now) }
-        ensures err { OnErr result (Wrote (gathered K.told K.faults self.old) (gathered K.told K.faults self.new) []) }
+        ensures ok { OnOk result (Wrote K.told K.faults self.old self.new text.now) }
+        ensures err { OnErr result (Wrote K.told K.faults self.old self.new []) }
         ensures unbroken { OnOk result (self.new.broken ≡ false) }
         ensures broken { OnErr result (self.new.broken ≡ true) }
         ensures cause { HasCause (K.faults self.old.sink.now) (K.faults self.new.sink.now) result }
@@ -105,9 +106,10 @@ impl<'a, K: Sink> LineWriter<'a, K> {
 }
 
 impl<K: Sink> Taker for LineWriter<'_, K> {
-    ghost use Rattle.ae_nums.specs.Lines.{gathered};
+    ghost use Rattle.ae_nums.specs.Writer.{Wrote, SameSink};
+    ghost use Rattle.ae_nums.specs.scaffolding.Joining.{wrote_nothing, wrote_lines};
 
-    ghost took = { λ one two items. Wrote (gathered K.told K.faults one) (gathered K.told K.faults two) (trace_text items) };
+    ghost took = { λ one two items. Wrote K.told K.faults one two (trace_text items) };
 
     ghost faults = { λ writer. K.faults writer.sink.now };
 
@@ -121,10 +123,10 @@ impl<K: Sink> Taker for LineWriter<'_, K> {
         self.gather(item_line(&item).bytes())
     }
 
-    ghost took_nothing = { λ writer. wrote_nothing (gathered K.told K.faults writer) };
+    ghost took_nothing = { λ writer. wrote_nothing K.told K.faults writer };
 
-    ghost took_both = { λ one two three first second before after. wrote_lines
-        (gathered K.told K.faults one) (gathered K.told K.faults two) (gathered K.told K.faults three) first second before after };
+    ghost took_both = { λ one two three first second before after.
+        wrote_lines K.told K.faults one two three first second before after };
 
     ghost rest_stays = { λ writer. record { loan = refl; rest = K.rest_stays writer.sink.now } };
 

@@ -1,3 +1,5 @@
+pub mod LawsOfContent
+pub mod LawsOfFaults
 mod Pieces
 mod Left
-pub mod Places
+mod Places

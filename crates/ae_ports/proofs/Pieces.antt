@@ -1,28 +1,9 @@
--- Bytes that go one piece after the other, and bytes that were copied to the front of a buffer.
-use Rattle.std.proofs.Common.{◌≡◌, ◌⊎◌, inl, inr, ℕ, ◌+◌, ◌-◌, ◌≤◌, List, [], ◌∷◌, ◌++◌, length, take, drop, min, Option, None, Some, Ok, refl, sym, ◌∙◌, ap, arith, append_assoc, length-drop, length-take, take-append-drop}
-use Rattle.std.proofs.Math.Seq.{take-add}
+-- Bytes that were copied to the front of a buffer.
+use Rattle.std.proofs.Common.{◌≡◌, ◌⊎◌, inl, inr, ℕ, ◌+◌, ◌-◌, ◌≤◌, List, [], ◌∷◌, ◌++◌, length, take, drop, min, None, Some, Ok, sym, ◌∙◌, ap, arith, length-drop, length-take, take-append-drop}
 use Rattle.std.proofs.lemmas.List.{take_at, drop-drop, drop_all}
-use Rattle.std.specs.Io.KnownBytes.{append_known}
-use Rattle.ae_ports.specs.Content.{Appends, AppendsFront, Reads}
+use Rattle.ae_ports.specs.Content.{Reads}
 use Rattle.ae_ports.specs.Files.{Copies}
 use Rattle.ae_ports.specs.Memory.{IsCopy}
-
-append_known-append : (known : Option (List ℕ)) (first second : List ℕ) → append_known (append_known known first) second ≡ append_known known (first ++ second)
-append_known-append None first second = refl
-append_known-append (Some bytes) first second = ap Some (append_assoc bytes first second)
-
--- two pieces, one behind the other
-pub appends_more : (before mid now : Option (List ℕ)) (bytes : List ℕ) (sent count : ℕ) → Appends before mid (take sent bytes) → Appends mid now (take count (drop sent bytes)) → Appends before now (take (sent + count) bytes)
-appends_more before mid now bytes sent count first second =
-    second
-    ∙ ap (λ (known : Option (List ℕ)). append_known known (take count (drop sent bytes))) first
-    ∙ append_known-append before (take sent bytes) (take count (drop sent bytes))
-    ∙ ap (λ (l : List ℕ). append_known before l) (sym (take-add sent count bytes))
-
--- a piece, and a front of the rest
-pub appends_front_more : (before mid now : Option (List ℕ)) (bytes : List ℕ) (sent : ℕ) → sent ≤ length bytes → Appends before mid (take sent bytes) → AppendsFront mid now (drop sent bytes) → AppendsFront before now bytes
-appends_front_more before mid now bytes sent within first front =
-    (sent + front.0, omega (arith, length-drop sent bytes, front.1), appends_more before mid now bytes sent front.0 first front.2)
 
 pub copies : (bytes : List ℕ) (from : ℕ) (before now : List ℕ) (count : ℕ) → IsCopy bytes from before now count → Copies bytes from now count
 copies bytes from before now count copy = record {

@@ -12,8 +12,8 @@ pub record Tally : Type 0 where
   pub starved : ℕ
 
 -- before the first call
-abbrev pub fresh : List ℕ → Tally
-fresh fails = record { fails = fails; calls = 0; failed = 0; starved = 0 }
+abbrev pub new_tally : List ℕ → Tally
+new_tally fails = record { fails = fails; calls = 0; failed = 0; starved = 0 }
 
 -- all that failed
 abbrev pub fault_count : Tally → ℕ

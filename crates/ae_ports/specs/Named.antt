@@ -8,13 +8,13 @@ abbrev pub NamedFiles : Type 0
 NamedFiles = List (List ℕ × List ℕ)
 
 -- the bytes of the file of this name
-abbrev pub file_of : NamedFiles → List ℕ → Option (List ℕ)
-file_of [] name = None
-file_of (file ∷ files) name = if bytes_eq file.0 name then Some file.1 else file_of files name
+abbrev pub file_named : NamedFiles → List ℕ → Option (List ℕ)
+file_named [] name = None
+file_named (file ∷ files) name = if bytes_eq file.0 name then Some file.1 else file_named files name
 
 -- where the file of this name stands in the list
-abbrev pub place_of : NamedFiles → List ℕ → Option ℕ
-place_of files name = position_from (λ file. bytes_eq file.0 name) 0 files
+abbrev pub place_named : NamedFiles → List ℕ → Option ℕ
+place_named files name = position_from (λ file. bytes_eq file.0 name) 0 files
 
 -- these bytes in place of those that the file of this name had; a new file at the end where there was none
 abbrev pub put_file : NamedFiles → List ℕ → List ℕ → NamedFiles

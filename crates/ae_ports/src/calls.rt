@@ -1,6 +1,6 @@
 ghost use Rattle.std.specs.Prelude.{◌≡◌, ◌≤◌, []};
 ghost use Rattle.ae_ports.specs.Fault.{HasCause, HasRisen};
-ghost use Rattle.ae_ports.specs.Memory.{fresh, raised, fault_count, fails_next, CountsSteadyCall};
+ghost use Rattle.ae_ports.specs.Memory.{new_tally, raised, fault_count, fails_next, CountsSteadyCall};
 
 use crate::Failed;
 use std::marker::Model;
@@ -28,7 +28,7 @@ impl Model for Calls {
 impl Calls {
     /// No call yet. The calls with these numbers, counted from 0, are to fail.
     pub fn new(fails: Vec<u64>) -> Calls
-        ensures { result ≡ fresh fails.items }
+        ensures { result ≡ new_tally fails.items }
     {
         Calls {
             fails,

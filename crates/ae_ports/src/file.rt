@@ -1,7 +1,7 @@
 ghost use Rattle.std.specs.Prelude.{◌≡◌, ◌++◌, OnOk, OnErr};
 ghost use Rattle.std.specs.Option.{option_copied};
 ghost use Rattle.std.specs.Str.{bytes_eq};
-ghost use Rattle.ae_ports.specs.Named.{file_of, place_of, put_file, grow_file};
+ghost use Rattle.ae_ports.specs.Named.{file_named, place_named, put_file, grow_file};
 
 use crate::Word;
 use std::alloc::AllocError;
@@ -55,7 +55,7 @@ impl File {
 
 // Where the file of this name stands.
 fn place(files: &[File], name: &Word) -> Option<usize>
-    ensures { result ≡ place_of files.now name.now }
+    ensures { result ≡ place_named files.now name.now }
 {
     files.iter().position(|file| file.is_named(name))
 }
@@ -63,7 +63,7 @@ fn place(files: &[File], name: &Word) -> Option<usize>
 /// The bytes of the file of this name.
 #[tactic(auto, using(crate::proofs::Places::stands, crate::proofs::Places::absent))]
 pub fn find<'a>(files: &'a [File], name: &Word) -> Option<&'a [u8]>
-    ensures { option_copied result ≡ file_of files.now name.now }
+    ensures { option_copied result ≡ file_named files.now name.now }
 {
     match place(files, name) {
         Some(at) => Some(files[at].bytes()),

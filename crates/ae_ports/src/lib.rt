@@ -7,6 +7,7 @@
 
 mod calls;
 mod copy;
+mod dropped;
 mod failed;
 mod file;
 mod memory_sink;
@@ -23,6 +24,7 @@ mod tests;
 mod whole;
 mod word;
 
+pub use dropped::Dropped;
 pub use failed::Failed;
 pub use memory_sink::MemorySink;
 pub use memory_source::MemorySource;

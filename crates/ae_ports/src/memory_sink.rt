@@ -2,7 +2,7 @@ ghost use Rattle.std.specs.Prelude.{◌≡◌, ◌<◌, ◌≤◌, [], ◌++◌,
 ghost use Rattle.std.proofs.Common.{◌∙◌};
 ghost use Rattle.ae_ports.specs.Fault.{HasCause};
 ghost use Rattle.ae_ports.specs.Content.{Writes};
-ghost use Rattle.ae_ports.specs.Memory.{fresh, fault_count, CountsCall};
+ghost use Rattle.ae_ports.specs.Memory.{new_tally, fault_count, CountsCall};
 
 use crate::calls::Calls;
 use crate::{Failed, Sink};
@@ -27,7 +27,7 @@ impl Model for MemorySink {
 impl MemorySink {
     /// A sink that has taken nothing. The calls of `write` with the numbers in `fails`, counted from 0, are to fail.
     pub fn new(alloc: Global, fails: Vec<u64>) -> MemorySink
-        ensures { result ≡ record { taken = []; tally = fresh fails.items } }
+        ensures { result ≡ record { taken = []; tally = new_tally fails.items } }
     {
         MemorySink {
             taken: Vec::new(alloc),

@@ -2,7 +2,7 @@ ghost use Rattle.std.specs.Prelude.{◌≡◌, ◌≤◌, length, Some, IfOk, On
 ghost use Rattle.std.proofs.Common.{◌∙◌};
 ghost use Rattle.ae_ports.specs.Fault.{HasCause};
 ghost use Rattle.ae_ports.specs.Content.{Reads};
-ghost use Rattle.ae_ports.specs.Memory.{fresh, fault_count, CountsSteadyCall, IsCopy};
+ghost use Rattle.ae_ports.specs.Memory.{new_tally, fault_count, CountsSteadyCall, IsCopy};
 
 use crate::calls::Calls;
 use crate::{Failed, Source, SteadySource};
@@ -26,7 +26,7 @@ impl Model for MemorySource {
 impl MemorySource {
     /// A source of these bytes. The calls of `read` with the numbers in `fails`, counted from 0, are to fail.
     pub fn new(bytes: Vec<u8>, fails: Vec<u64>) -> MemorySource
-        ensures { result ≡ record { left = bytes.items; tally = fresh fails.items } }
+        ensures { result ≡ record { left = bytes.items; tally = new_tally fails.items } }
     {
         MemorySource {
             source: SteadySource::new(bytes),

@@ -3,8 +3,8 @@ ghost use Rattle.std.specs.Option.{option_copied};
 ghost use Rattle.std.proofs.Common.{◌∙◌};
 ghost use Rattle.ae_ports.specs.Fault.{HasCause};
 ghost use Rattle.ae_ports.specs.Files.{IsThere, SameFiles, SameOthers, TellsSize, Gets, Makes, Adds};
-ghost use Rattle.ae_ports.specs.Named.{file_of, put_file, grow_file};
-ghost use Rattle.ae_ports.specs.Memory.{fresh, fault_count, CountsSteadyCall, CountsCall, IsCopy};
+ghost use Rattle.ae_ports.specs.Named.{file_named, put_file, grow_file};
+ghost use Rattle.ae_ports.specs.Memory.{new_tally, fault_count, CountsSteadyCall, CountsCall, IsCopy};
 
 use crate::calls::Calls;
 use crate::copy::copy_from;
@@ -33,7 +33,7 @@ impl MemoryStore {
     /// A store without files. The calls of `size`, `get`, `make` and `add` with the numbers in `fails`, counted
     /// together from 0, are to fail.
     pub fn new(alloc: Global, fails: Vec<u64>) -> MemoryStore
-        ensures { result ≡ record { files = []; tally = fresh fails.items } }
+        ensures { result ≡ record { files = []; tally = new_tally fails.items } }
     {
         MemoryStore {
             alloc,
@@ -44,7 +44,7 @@ impl MemoryStore {
 
     /// The bytes of a file, `None` where the store has none of this name.
     pub fn file(&self, name: &Word) -> Option<&[u8]>
-        ensures { option_copied result ≡ file_of self.now.files name.now }
+        ensures { option_copied result ≡ file_named self.now.files name.now }
     {
         file::find(&self.files, name)
     }
@@ -53,9 +53,9 @@ impl MemoryStore {
     /// is no call of the trait, and isn't counted.
     pub fn put(&mut self, name: Word, bytes: Vec<u8>) -> Result<(), AllocError>
         ensures ok { OnOk result (self.new.files ≡ put_file self.old.files name bytes.items) }
-        ensures held { OnOk result (file_of self.new.files name ≡ Some bytes.items) }
+        ensures held { OnOk result (file_named self.new.files name ≡ Some bytes.items) }
         ensures others { (other : List ℕ) → other ≢ name →
-            file_of self.new.files other ≡ file_of self.old.files other }
+            file_named self.new.files other ≡ file_named self.old.files other }
         ensures err { OnErr result (self.new ≡ self.old) }
         ensures tally { self.new.tally ≡ self.old.tally }
     {
@@ -82,7 +82,7 @@ impl MemoryStore {
 }
 
 impl Store for MemoryStore {
-    ghost told = { λ store. Some (file_of store.files) };
+    ghost told = { λ store. Some (file_named store.files) };
 
     ghost faults = { λ store. fault_count store.tally };
 
@@ -90,8 +90,8 @@ impl Store for MemoryStore {
 
     /// The length of a file. It never wants memory.
     fn size(&mut self, name: &Word) -> Result<Option<u64>, Failed>
-        ensures content { TellsSize (Some (file_of self.old.files)) name.now result }
-        ensures files { SameFiles (Some (file_of self.old.files)) (Some (file_of self.new.files)) }
+        ensures content { TellsSize (Some (file_named self.old.files)) name.now result }
+        ensures files { SameFiles (Some (file_named self.old.files)) (Some (file_named self.new.files)) }
         ensures cause { HasCause (fault_count self.old.tally) (fault_count self.new.tally) result }
         ensures rest { self.old.tally.fails ≡ self.new.tally.fails }
         ensures same { self.new.files ≡ self.old.files }
@@ -106,15 +106,15 @@ impl Store for MemoryStore {
 
     /// Copies all bytes from the offset on that are there and have room. It never wants memory.
     fn get(&mut self, name: &Word, from: u64, buf: &mut [u8]) -> Result<usize, Failed>
-        requires { IsThere (Some (file_of self.old.files)) name.now }
+        requires { IsThere (Some (file_named self.old.files)) name.now }
         ensures within { IfOk result (λ count. count ≤ length buf.old) }
-        ensures content { Gets (Some (file_of self.old.files)) name.now from buf.new result }
-        ensures files { SameFiles (Some (file_of self.old.files)) (Some (file_of self.new.files)) }
+        ensures content { Gets (Some (file_named self.old.files)) name.now from buf.new result }
+        ensures files { SameFiles (Some (file_named self.old.files)) (Some (file_named self.new.files)) }
         ensures cause { HasCause (fault_count self.old.tally) (fault_count self.new.tally) result }
         ensures rest { self.old.tally.fails ≡ self.new.tally.fails }
         ensures same { self.new.files ≡ self.old.files }
         ensures counts { CountsSteadyCall self.old.tally self.new.tally result }
-        ensures copy { MatchOption (file_of self.old.files name.now) ⊤
+        ensures copy { MatchOption (file_named self.old.files name.now) ⊤
             (λ bytes. IfOk result (λ count. IsCopy bytes from buf.old buf.new count)) }
         ensures nothing { OnErr result (buf.new ≡ buf.old) }
     {
@@ -127,9 +127,9 @@ impl Store for MemoryStore {
 
     /// Leaves an empty file under the name, or fails and changes nothing.
     fn make(&mut self, name: &Word) -> Result<(), Failed>
-        ensures content { Makes (Some (file_of self.old.files)) (Some (file_of self.new.files))
+        ensures content { Makes (Some (file_named self.old.files)) (Some (file_named self.new.files))
             name.now result }
-        ensures others { SameOthers (Some (file_of self.old.files)) (Some (file_of self.new.files))
+        ensures others { SameOthers (Some (file_named self.old.files)) (Some (file_named self.new.files))
             name.now }
         ensures cause { HasCause (fault_count self.old.tally) (fault_count self.new.tally) result }
         ensures rest { self.old.tally.fails ≡ self.new.tally.fails }
@@ -146,10 +146,10 @@ impl Store for MemoryStore {
 
     /// Appends all the bytes, or fails and changes nothing.
     fn add(&mut self, name: &Word, bytes: &[u8]) -> Result<(), Failed>
-        requires { IsThere (Some (file_of self.old.files)) name.now }
-        ensures content { Adds (Some (file_of self.old.files)) (Some (file_of self.new.files))
+        requires { IsThere (Some (file_named self.old.files)) name.now }
+        ensures content { Adds (Some (file_named self.old.files)) (Some (file_named self.new.files))
             name.now bytes.now result }
-        ensures others { SameOthers (Some (file_of self.old.files)) (Some (file_of self.new.files))
+        ensures others { SameOthers (Some (file_named self.old.files)) (Some (file_named self.new.files))
             name.now }
         ensures cause { HasCause (fault_count self.old.tally) (fault_count self.new.tally) result }
         ensures rest { self.old.tally.fails ≡ self.new.tally.fails }

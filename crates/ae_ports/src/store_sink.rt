@@ -3,7 +3,8 @@ ghost use Rattle.std.proofs.Common.{◌∙◌};
 ghost use Rattle.ae_ports.specs.Fault.{HasCause};
 ghost use Rattle.ae_ports.specs.Content.{Writes};
 ghost use Rattle.ae_ports.specs.Files.{IsThere, SameOthers, file_told};
-ghost use Rattle.ae_ports.specs.Loan.{SameLoan, IsThere-prop, SameOthers-stays, SameOthers-joins};
+ghost use Rattle.ae_ports.specs.Loan.{SameLoan};
+ghost use Rattle.ae_ports.specs.scaffolding.Lending.{IsThere-prop, SameOthers-stays, SameOthers-joins};
 
 use crate::{Failed, Sink, Store, Word};
 

@@ -3,7 +3,8 @@ ghost use Rattle.std.proofs.Common.{◌∙◌};
 ghost use Rattle.ae_ports.specs.Fault.{HasCause};
 ghost use Rattle.ae_ports.specs.Content.{Reads};
 ghost use Rattle.ae_ports.specs.Files.{IsThere, SameFiles, left_told};
-ghost use Rattle.ae_ports.specs.Loan.{SameLoan, IsThere-prop, SameFiles-stays, SameFiles-joins};
+ghost use Rattle.ae_ports.specs.Loan.{SameLoan};
+ghost use Rattle.ae_ports.specs.scaffolding.Lending.{IsThere-prop, SameFiles-stays, SameFiles-joins};
 
 use crate::{Failed, Source, Store, Word};
 

@@ -1,6 +1,6 @@
 ghost use Rattle.std.specs.Prelude.{IfOk, IsSome};
 ghost use Rattle.ae_ports.specs.Files.{IsThere, SameFiles, SameOthers};
-ghost use Rattle.ae_ports.specs.Named.{file_of};
+ghost use Rattle.ae_ports.specs.Named.{file_named};
 
 use super::*;
 use std::alloc::{AllocError, Global};
@@ -155,7 +155,7 @@ const CALLS: [(u64, [bool; 4], &[u8], &[u8]); 5] = [
 
 // A store with a file of these bytes, whose call of this number fails.
 fn one_file(alloc: Global, number: u64, name: Word, bytes: &[u8]) -> Result<MemoryStore, AllocError>
-    ensures { IfOk result (λ store. IsSome (file_of store.files name)) }
+    ensures { IfOk result (λ store. IsSome (file_named store.files name)) }
 {
     let mut store = MemoryStore::new(alloc, [number].to_vec(alloc)?);
     store.put(name, bytes.to_vec(alloc)?)?;
@@ -164,7 +164,7 @@ fn one_file(alloc: Global, number: u64, name: Word, bytes: &[u8]) -> Result<Memo
 
 // A store with a file of the byte 9 and a file of the bytes 1 2 3, whose call of this number fails.
 fn two_files(alloc: Global, number: u64, b: Word, a: Word) -> Result<MemoryStore, AllocError>
-    ensures { IfOk result (λ store. IsSome (file_of store.files a)) }
+    ensures { IfOk result (λ store. IsSome (file_named store.files a)) }
 {
     let mut store = one_file(alloc, number, b, &[9])?;
     store.put(a, [1, 2, 3].to_vec(alloc)?)?;
@@ -172,7 +172,7 @@ fn two_files(alloc: Global, number: u64, b: Word, a: Word) -> Result<MemoryStore
 }
 
 fn four_calls(store: &mut MemoryStore, a: &Word, b: &Word) -> [bool; 4]
-    requires { IsSome (file_of store.old.files a.now) }
+    requires { IsSome (file_named store.old.files a.now) }
 {
     let mut buf = [0; 2];
     let size = store.size(a);

@@ -1,1 +1,1 @@
-pub mod Heads
+mod Heads

@@ -1,11 +1,11 @@
 //! What stands behind the name of each command.
 ghost use Rattle.std.specs.Prelude.{◌≡◌, ◌≤◌};
-ghost use Rattle.ae_words.specs.Command.{run_with, run_of, plain_of, rewrite_of, regenerate_of, profile_of, kind_of, print_of, sample_of, help_of};
+ghost use Rattle.ae_words.specs.Command.{run_with, run_command, plain_with, plain_command, rewrite_command, regenerate_command, profile_command, print_kind_command, print_command, sample_command, help_command};
 
 use crate::Command;
 use crate::files::{name_files, names_a_file};
 use crate::numbers::short_positive;
-use crate::options::{RunOptions, plain_fuel};
+use crate::options::{GivenOptions, Takes};
 use ae_ports::Word;
 
 /// `run` with these file words, the options from this place on.
@@ -16,7 +16,7 @@ fn run_these(files: &[Word], events: Option<u32>, place: u32, options: &[Word]) 
     if !name_files(files) {
         return None;
     }
-    let given = RunOptions::none().with_options(files, place, options)?;
+    let given = GivenOptions::none().with_options(Takes::Run, files, place, options)?;
     Some(Command::Run {
         prog: 1,
         events,
@@ -27,7 +27,7 @@ fn run_these(files: &[Word], events: Option<u32>, place: u32, options: &[Word]) 
 
 /// PROG or PROG EVENTS, then options. A second word that names no file can only be an option.
 pub fn run(words: &[Word]) -> Option<Command>
-    ensures { result ≡ run_of words.now }
+    ensures { result ≡ run_command words.now }
 {
     match words {
         [] => None,
@@ -42,23 +42,34 @@ pub fn run(words: &[Word]) -> Option<Command>
     }
 }
 
+/// `plain` with these file words, the options from place 3 on.
+fn plain_these(files: &[Word], options: &[Word]) -> Option<Command>
+    ensures { result ≡ plain_with files.now options.now }
+{
+    if !name_files(files) {
+        return None;
+    }
+    let given = GivenOptions::none().with_options(Takes::Plain, files, 3, options)?;
+    Some(Command::Plain {
+        prog: 1,
+        trace: 2,
+        fuel: given.fuel,
+    })
+}
+
 /// PROG TRACE, then options.
 pub fn plain(words: &[Word]) -> Option<Command>
-    ensures { result ≡ plain_of words.now }
+    ensures { result ≡ plain_command words.now }
 {
     match words {
-        [_, _, options @ ..] if name_files(&words[..2]) => Some(Command::Plain {
-            prog: 1,
-            trace: 2,
-            fuel: plain_fuel(options)?,
-        }),
+        [_, _, options @ ..] => plain_these(&words[..2], options),
         _ => None,
     }
 }
 
 /// PROG NEW SCHEMA.
 pub fn rewrite(words: &[Word]) -> Option<Command>
-    ensures { result ≡ rewrite_of words.now }
+    ensures { result ≡ rewrite_command words.now }
 {
     match words {
         [_, _, _] if name_files(words) => Some(Command::Rewrite {
@@ -72,7 +83,7 @@ pub fn rewrite(words: &[Word]) -> Option<Command>
 
 /// SCHEMA EVENTS TRACE.
 pub fn regenerate(words: &[Word]) -> Option<Command>
-    ensures { result ≡ regenerate_of words.now }
+    ensures { result ≡ regenerate_command words.now }
 {
     match words {
         [_, _, _] if name_files(words) => Some(Command::Regenerate {
@@ -86,7 +97,7 @@ pub fn regenerate(words: &[Word]) -> Option<Command>
 
 /// SCHEMA EVENTS.
 pub fn profile(words: &[Word]) -> Option<Command>
-    ensures { result ≡ profile_of words.now }
+    ensures { result ≡ profile_command words.now }
 {
     match words {
         [_, _] if name_files(words) => Some(Command::Profile {
@@ -99,7 +110,7 @@ pub fn profile(words: &[Word]) -> Option<Command>
 
 /// What of one file is printed.
 fn print_kind(kind: &[u8]) -> Option<Command>
-    ensures { result ≡ kind_of kind.now }
+    ensures { result ≡ print_kind_command kind.now }
 {
     if kind == b"elf".as_slice() {
         Some(Command::PrintElf { file: 2 })
@@ -120,7 +131,7 @@ fn print_kind(kind: &[u8]) -> Option<Command>
 
 /// KIND FILE, or `events` SCHEMA EVENTS.
 pub fn print(words: &[Word]) -> Option<Command>
-    ensures { result ≡ print_of words.now }
+    ensures { result ≡ print_command words.now }
 {
     match words {
         [kind, file] if names_a_file(file.bytes()) => print_kind(kind.bytes()),
@@ -136,7 +147,7 @@ pub fn print(words: &[Word]) -> Option<Command>
 
 /// N NEW SCHEMA EVENTS.
 pub fn sample(words: &[Word]) -> Option<Command>
-    ensures { result ≡ sample_of words.now }
+    ensures { result ≡ sample_command words.now }
 {
     match words {
         [number, _, _, _] if name_files(&words[1..]) => Some(Command::Sample {
@@ -151,7 +162,7 @@ pub fn sample(words: &[Word]) -> Option<Command>
 
 /// Nothing.
 pub fn help(words: &[Word]) -> Option<Command>
-    ensures { result ≡ help_of words.now }
+    ensures { result ≡ help_command words.now }
 {
     if words.is_empty() {
         Some(Command::Help)

@@ -1,5 +1,5 @@
 use Rattle.std.proofs.Common.{length}
-use Rattle.ae_words.proofs.options.RunOptions.+with_options.Given as goal
+use Rattle.ae_words.proofs.options.GivenOptions.+with_options.Given as goal
 
 abbrev pub decreases-with_options : goal.decreases-with_options
 decreases-with_options l = length l.words.now
