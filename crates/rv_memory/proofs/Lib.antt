@@ -1,6 +1,8 @@
-pub mod Begun
-pub mod Order
-pub mod ReadBytes
-pub mod RunBytes
-pub mod Sample
-pub mod WrittenBytes
+pub mod LawsOfCells
+pub mod LawsOfStart
+mod Order
+mod ReadBytes
+mod RunBytes
+mod ReadBack
+mod Sample
+mod WrittenBytes

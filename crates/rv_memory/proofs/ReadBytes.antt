@@ -8,11 +8,12 @@ use Rattle.std.proofs.Math.Nat.{mod-eq_of_lt, pow-suc}
 use Rattle.rv_code.specs.Numbers.{wrap, number_of}
 use Rattle.rv_memory.specs.declared.hole.Hole.{Hole}
 use Rattle.rv_memory.specs.Answers.{hole_or}
-use Rattle.rv_memory.specs.Memory.{Cell, cell_at, is_mapped, is_writable, is_writable_cell, byte_of_cell, byte_at, span, bytes_at, first_hole}
-use Rattle.rv_memory.specs.Blocks.{Block, memory_of}
-use Rattle.rv_memory.specs.Outline.{block_end, RiseFrom, AreInOrder, region_at}
-use Rattle.rv_memory.specs.Places.{block_at, HasAddress, Misses, IsNowhere, bytes_behind}
-use Rattle.rv_memory.proofs.Order.{cell_of, block_is, nowhere, start_above}
+use Rattle.rv_memory.specs.Memory.{Cell, cell_at, is_mapped, is_writable, is_writable_cell, byte_of_cell, span, bytes_at, first_hole}
+use Rattle.rv_memory.specs.Stretches.{MappedStretch, cells_in}
+use Rattle.rv_memory.specs.Outline.{stretch_end, RiseFrom, AreInOrder, region_at, bytes_behind}
+use Rattle.rv_memory.specs.Inner.Places.{stretch_at, HasAddress, Misses, IsNowhere}
+use Rattle.rv_memory.proofs.LawsOfCells.{bytes_at-take, no_hole}
+use Rattle.rv_memory.proofs.Order.{cell_of, stretch_is, nowhere, start_above}
 
 -- the first address of some, and the others
 pub span_more : (address count : ℕ) → 0 < count → span address count ≡ address ∷ span (wrap (address + 1)) (count - 1)
@@ -53,91 +54,73 @@ missed_after memory address count at cell some found is =
     let more = span (wrap (address + 1)) (count - 1) in
     ap (read_of memory) (span_more address count some) ∙ (read_more memory address more cell found ∙ missed (first_hole memory more) cell.byte (number_of (bytes_at memory more)) at is)
 
--- the cells of addresses in one block
-pub all_mapped : (blocks : List Block) (place address count : ℕ) → AreInOrder blocks → (0 < count → HasAddress blocks place address) → address + count ≤ block_end (block_at blocks place) → place < length blocks
-    → first_hole (memory_of blocks) (span address count) ≡ None
-all_mapped blocks place address zero order has within inside = refl
-all_mapped blocks place address (suc zero) order has within inside =
-    ap (λ (o : Option Cell). cond (not (is_some o)) (Some address) None) (cell_of 0 blocks place address order.rise (has (omega arith)))
-all_mapped blocks place address (suc (suc count)) order has within inside =
+-- the cells of addresses in one stretch
+pub all_mapped : (stretches : List MappedStretch) (place address count : ℕ) → AreInOrder stretches → (0 < count → HasAddress stretches place address) → address + count ≤ stretch_end (stretch_at stretches place) → place < length stretches
+    → first_hole (cells_in stretches) (span address count) ≡ None
+all_mapped stretches place address zero order has within inside = refl
+all_mapped stretches place address (suc zero) order has within inside =
+    ap (λ (o : Option Cell). cond (not (is_some o)) (Some address) None) (cell_of 0 stretches place address order.rise (has (omega arith)))
+all_mapped stretches place address (suc (suc count)) order has within inside =
     let here = has (omega arith) in
-    let no_wrap : wrap (address + 1) ≡ address + 1 = mod-eq_of_lt (omega (arith, within, (block_is 0 blocks place order.rise inside).within)) in
-    ap (λ (o : Option Cell). cond (not (is_some o)) (Some address) (first_hole (memory_of blocks) (span (wrap (address + 1)) (suc count)))) (cell_of 0 blocks place address order.rise here)
-    ∙ all_mapped blocks place (wrap (address + 1)) (suc count) order
+    let no_wrap : wrap (address + 1) ≡ address + 1 = mod-eq_of_lt (omega (arith, within, (stretch_is 0 stretches place order.rise inside).within)) in
+    ap (λ (o : Option Cell). cond (not (is_some o)) (Some address) (first_hole (cells_in stretches) (span (wrap (address + 1)) (suc count)))) (cell_of 0 stretches place address order.rise here)
+    ∙ all_mapped stretches place (wrap (address + 1)) (suc count) order
     (λ _. record { inside = inside; above = omega (arith, here.above, no_wrap); below = omega (arith, within, no_wrap) }) (omega (arith, within, no_wrap)) inside
 
-pub bytes_within : (blocks : List Block) (place address count : ℕ) → AreInOrder blocks → (0 < count → HasAddress blocks place address) → address + count ≤ block_end (block_at blocks place) → place < length blocks
-    → bytes_at (memory_of blocks) (span address count) ≡ take count (drop (address - (block_at blocks place).start) (block_at blocks place).bytes)
-bytes_within blocks place address zero order has within inside = refl
-bytes_within blocks place address (suc zero) order has within inside =
+pub bytes_within : (stretches : List MappedStretch) (place address count : ℕ) → AreInOrder stretches → (0 < count → HasAddress stretches place address) → address + count ≤ stretch_end (stretch_at stretches place) → place < length stretches
+    → bytes_at (cells_in stretches) (span address count) ≡ take count (drop (address - (stretch_at stretches place).start) (stretch_at stretches place).bytes)
+bytes_within stretches place address zero order has within inside = refl
+bytes_within stretches place address (suc zero) order has within inside =
     let here = has (omega arith) in
-    let bytes = (block_at blocks place).bytes in
-    let offset : ℕ = address - (block_at blocks place).start in
+    let bytes = (stretch_at stretches place).bytes in
+    let offset : ℕ = address - (stretch_at stretches place).start in
     let lies : offset < length bytes = omega (arith, here.above, here.below) in
-    ap (λ (o : Option Cell). byte_of_cell o ∷ []) (cell_of 0 blocks place address order.rise here)
+    ap (λ (o : Option Cell). byte_of_cell o ∷ []) (cell_of 0 stretches place address order.rise here)
     ∙ ap (λ (xs : List ℕ). take 1 xs) (sym (drop-cons bytes offset 0 lies))
-bytes_within blocks place address (suc (suc count)) order has within inside =
+bytes_within stretches place address (suc (suc count)) order has within inside =
     let here = has (omega arith) in
-    let block = block_at blocks place in
-    let offset : ℕ = address - block.start in
-    let lies : offset < length block.bytes = omega (arith, here.above, here.below) in
-    let no_wrap : wrap (address + 1) ≡ address + 1 = mod-eq_of_lt (omega (arith, within, (block_is 0 blocks place order.rise inside).within)) in
-    let further : wrap (address + 1) - block.start ≡ suc offset = omega (arith, here.above, no_wrap) in
-    ap (λ (o : Option Cell). byte_of_cell o ∷ bytes_at (memory_of blocks) (span (wrap (address + 1)) (suc count))) (cell_of 0 blocks place address order.rise here)
-    ∙ (ap (λ xs. get_or block.bytes offset 0 ∷ xs) (bytes_within blocks place (wrap (address + 1)) (suc count) order
+    let stretch = stretch_at stretches place in
+    let offset : ℕ = address - stretch.start in
+    let lies : offset < length stretch.bytes = omega (arith, here.above, here.below) in
+    let no_wrap : wrap (address + 1) ≡ address + 1 = mod-eq_of_lt (omega (arith, within, (stretch_is 0 stretches place order.rise inside).within)) in
+    let further : wrap (address + 1) - stretch.start ≡ suc offset = omega (arith, here.above, no_wrap) in
+    ap (λ (o : Option Cell). byte_of_cell o ∷ bytes_at (cells_in stretches) (span (wrap (address + 1)) (suc count))) (cell_of 0 stretches place address order.rise here)
+    ∙ (ap (λ xs. get_or stretch.bytes offset 0 ∷ xs) (bytes_within stretches place (wrap (address + 1)) (suc count) order
     (λ _. record { inside = inside; above = omega (arith, here.above, no_wrap); below = omega (arith, within, no_wrap) }) (omega (arith, within, no_wrap)) inside)
-    ∙ (ap (λ n. get_or block.bytes offset 0 ∷ take (suc count) (drop n block.bytes)) further
-    ∙ ap (λ (xs : List ℕ). take (suc (suc count)) xs) (sym (drop-cons block.bytes offset 0 lies))))
+    ∙ (ap (λ n. get_or stretch.bytes offset 0 ∷ take (suc count) (drop n stretch.bytes)) further
+    ∙ ap (λ (xs : List ℕ). take (suc (suc count)) xs) (sym (drop-cons stretch.bytes offset 0 lies))))
 
--- an access of fewer bytes
-pub bytes_at-take : (memory : List Cell) (few many address : ℕ) → few ≤ many → bytes_at memory (span address few) ≡ take few (bytes_at memory (span address many))
-bytes_at-take memory zero many address le = refl
-bytes_at-take memory (suc few) zero address le = absurd (omega arith)
-bytes_at-take memory (suc few) (suc many) address le =
-    ap (λ xs. byte_at memory address ∷ xs) (bytes_at-take memory few many (wrap (address + 1)) (omega arith))
-
-found_none : (t : Bool) (address : ℕ) (few many : Option ℕ) → cond t (Some address) many ≡ None → (many ≡ None → few ≡ None) → cond t (Some address) few ≡ None
-found_none true address few many is f = cc
-found_none false address few many is f = f is
-
-pub first_hole-take : (memory : List Cell) (few many address : ℕ) → few ≤ many → first_hole memory (span address many) ≡ None → first_hole memory (span address few) ≡ None
-first_hole-take memory zero many address le none = refl
-first_hole-take memory (suc few) zero address le none = absurd (omega arith)
-first_hole-take memory (suc few) (suc many) address le none =
-    found_none (not (is_mapped memory address)) address (first_hole memory (span (wrap (address + 1)) few)) (first_hole memory (span (wrap (address + 1)) many)) none
-    (first_hole-take memory few many (wrap (address + 1)) (omega arith))
-
--- the bytes to the end of a block
+-- the bytes to the end of a stretch
 cond_at : (here : Bool) (xs ys zs : List ℕ) → (here ≡ true → xs ≡ zs) → (here ≡ false → ys ≡ zs) → cond here xs ys ≡ zs
 cond_at true xs ys zs f g = f refl
 cond_at false xs ys zs f g = g refl
 
-pub behind_of : (low : ℕ) (blocks : List Block) (place address : ℕ) → RiseFrom low blocks → HasAddress blocks place address
-    → bytes_behind blocks address ≡ drop (address - (block_at blocks place).start) (block_at blocks place).bytes
+pub behind_of : (low : ℕ) (stretches : List MappedStretch) (place address : ℕ) → RiseFrom low stretches → HasAddress stretches place address
+    → bytes_behind stretches address ≡ drop (address - (stretch_at stretches place).start) (stretch_at stretches place).bytes
 behind_of low [] place address h has = absurd (omega (arith, has.inside))
-behind_of low (block ∷ blocks) zero address h has =
-    cond_at (nat_le block.start address && nat_lt address (block_end block)) (drop (address - block.start) block.bytes) (bytes_behind blocks address) (drop (address - block.start) block.bytes)
+behind_of low (stretch ∷ stretches) zero address h has =
+    cond_at (nat_le stretch.start address && nat_lt address (stretch_end stretch)) (drop (address - stretch.start) stretch.bytes) (bytes_behind stretches address) (drop (address - stretch.start) stretch.bytes)
     (λ _. refl) (λ no. absurd (grind (arith, nat_tests, has.above, has.below, no)))
-behind_of low (block ∷ blocks) (suc place) address h has =
-    let inside : place < length blocks = omega (arith, has.inside) in
-    let above : (block_at blocks place).start ≤ address = has.above in
-    let past : block_end block ≤ address = omega (arith, start_above (block_end block) blocks place h.1.1 inside, above) in
-    cond_at (nat_le block.start address && nat_lt address (block_end block)) (drop (address - block.start) block.bytes) (bytes_behind blocks address) (drop (address - (block_at blocks place).start) (block_at blocks place).bytes)
+behind_of low (stretch ∷ stretches) (suc place) address h has =
+    let inside : place < length stretches = omega (arith, has.inside) in
+    let above : (stretch_at stretches place).start ≤ address = has.above in
+    let past : stretch_end stretch ≤ address = omega (arith, start_above (stretch_end stretch) stretches place h.1.1 inside, above) in
+    cond_at (nat_le stretch.start address && nat_lt address (stretch_end stretch)) (drop (address - stretch.start) stretch.bytes) (bytes_behind stretches address) (drop (address - (stretch_at stretches place).start) (stretch_at stretches place).bytes)
     (λ yes. absurd (grind (arith, nat_tests, past, yes)))
-    (λ _. behind_of (block_end block) blocks place address h.1.1 (record { inside = inside; above = has.above; below = has.below }))
+    (λ _. behind_of (stretch_end stretch) stretches place address h.1.1 (record { inside = inside; above = has.above; below = has.below }))
 
-in_none : (block : Block) (address : ℕ) → Misses block address → (nat_le block.start address && nat_lt address (block_end block)) ≡ true → ⊥
-in_none block address misses here = elim misses [
+in_none : (stretch : MappedStretch) (address : ℕ) → Misses stretch address → (nat_le stretch.start address && nat_lt address (stretch_end stretch)) ≡ true → ⊥
+in_none stretch address misses here = elim misses [
   | inl before ↦ grind (arith, nat_tests, before, here)
   | inr behind ↦ grind (arith, nat_tests, behind, here)
 ]
 
-pub behind_none : (blocks : List Block) (address : ℕ) → ((place : ℕ) → place < length blocks → Misses (block_at blocks place) address) → bytes_behind blocks address ≡ []
+pub behind_none : (stretches : List MappedStretch) (address : ℕ) → ((place : ℕ) → place < length stretches → Misses (stretch_at stretches place) address) → bytes_behind stretches address ≡ []
 behind_none [] address misses = refl
-behind_none (block ∷ blocks) address misses =
-    cond_at (nat_le block.start address && nat_lt address (block_end block)) (drop (address - block.start) block.bytes) (bytes_behind blocks address) []
-    (λ yes. absurd (in_none block address (misses 0 (omega arith)) yes))
-    (λ _. behind_none blocks address (λ place inside. misses (suc place) (omega arith)))
+behind_none (stretch ∷ stretches) address misses =
+    cond_at (nat_le stretch.start address && nat_lt address (stretch_end stretch)) (drop (address - stretch.start) stretch.bytes) (bytes_behind stretches address) []
+    (λ yes. absurd (in_none stretch address (misses 0 (omega arith)) yes))
+    (λ _. behind_none stretches address (λ place inside. misses (suc place) (omega arith)))
 
 -- one more byte below the others of a number
 pub byte_more : (byte rest count : ℕ) → 0 < count → byte < 256 → rest < 256 ^ (count - 1) → byte + 256 * rest < 256 ^ count
@@ -158,58 +141,58 @@ at_most_three rest (suc (suc (suc (suc count)))) le r = absurd (omega arith)
 pub sum_fits : (byte rest count : ℕ) → count ≤ 4 → 0 < count → byte < 256 → rest < 256 ^ (count - 1) → byte + 256 * rest < 2 ^ 32
 sum_fits byte rest count few some b r = omega (arith, b, at_most_three rest (count - 1) (omega arith) r)
 
--- the bytes from an address to the end of its block
-pub record AreBehind (blocks : List Block) (address : ℕ) (rest : List ℕ) : Type 0 where
-  pub to_the_end : rest ≡ bytes_behind blocks address
-  pub bytes : bytes_at (memory_of blocks) (span address (length rest)) ≡ rest
-  pub mapped : first_hole (memory_of blocks) (span address (length rest)) ≡ None
+-- the bytes from an address to the end of its stretch
+pub record AreBehind (stretches : List MappedStretch) (address : ℕ) (rest : List ℕ) : Type 0 where
+  pub to_the_end : rest ≡ bytes_behind stretches address
+  pub bytes : bytes_at (cells_in stretches) (span address (length rest)) ≡ rest
+  pub mapped : first_hole (cells_in stretches) (span address (length rest)) ≡ None
 
-pub are_behind : (blocks : List Block) (place address : ℕ) (block : Block) (rest : List ℕ) → AreInOrder blocks → HasAddress blocks place address
-    → block ≡ block_at blocks place → rest ≡ drop (address - block.start) block.bytes → AreBehind blocks address rest
-are_behind blocks place address block rest order has found is =
-    let here = block_at blocks place in
+pub are_behind : (stretches : List MappedStretch) (place address : ℕ) (stretch : MappedStretch) (rest : List ℕ) → AreInOrder stretches → HasAddress stretches place address
+    → stretch ≡ stretch_at stretches place → rest ≡ drop (address - stretch.start) stretch.bytes → AreBehind stretches address rest
+are_behind stretches place address stretch rest order has found is =
+    let here = stretch_at stretches place in
     let offset : ℕ = address - here.start in
-    let dropped : rest ≡ drop offset here.bytes = is ∙ ap (λ (b : Block). drop (address - b.start) b.bytes) found in
+    let dropped : rest ≡ drop offset here.bytes = is ∙ ap (λ (b : MappedStretch). drop (address - b.start) b.bytes) found in
     let count : length rest ≡ length here.bytes - offset = ap (λ (xs : List ℕ). length xs) dropped ∙ length-drop offset here.bytes in
-    let within : address + (length here.bytes - offset) ≤ block_end here = omega (arith, has.above, has.below) in
-    let bytes : bytes_at (memory_of blocks) (span address (length here.bytes - offset)) ≡ drop offset here.bytes =
-    bytes_within blocks place address (length here.bytes - offset) order (λ _. has) within has.inside ∙ take_rest here.bytes offset in
+    let within : address + (length here.bytes - offset) ≤ stretch_end here = omega (arith, has.above, has.below) in
+    let bytes : bytes_at (cells_in stretches) (span address (length here.bytes - offset)) ≡ drop offset here.bytes =
+    bytes_within stretches place address (length here.bytes - offset) order (λ _. has) within has.inside ∙ take_rest here.bytes offset in
     record {
-      to_the_end = dropped ∙ sym (behind_of 0 blocks place address order.rise has);
-      bytes = ap (λ n. bytes_at (memory_of blocks) (span address n)) count ∙ (bytes ∙ sym dropped);
-      mapped = ap (λ n. first_hole (memory_of blocks) (span address n)) count ∙ all_mapped blocks place address (length here.bytes - offset) order (λ _. has) within has.inside;
+      to_the_end = dropped ∙ sym (behind_of 0 stretches place address order.rise has);
+      bytes = ap (λ n. bytes_at (cells_in stretches) (span address n)) count ∙ (bytes ∙ sym dropped);
+      mapped = ap (λ n. first_hole (cells_in stretches) (span address n)) count ∙ all_mapped stretches place address (length here.bytes - offset) order (λ _. has) within has.inside;
     }
 
--- what is read where the bytes lie in one block
-pub read_rest : (blocks : List Block) (address size : ℕ) (rest : List ℕ) → size ≤ length rest
-    → bytes_at (memory_of blocks) (span address (length rest)) ≡ rest → first_hole (memory_of blocks) (span address (length rest)) ≡ None
-    → read_of (memory_of blocks) (span address size) ≡ Ok (number_of (take size rest))
-read_rest blocks address size rest enough bytes mapped =
-    let memory = memory_of blocks in
-    ap (λ hole. hole_or hole (number_of (bytes_at memory (span address size)))) (first_hole-take memory size (length rest) address enough mapped)
+-- what is read where the bytes lie in one stretch
+pub read_rest : (stretches : List MappedStretch) (address size : ℕ) (rest : List ℕ) → size ≤ length rest
+    → bytes_at (cells_in stretches) (span address (length rest)) ≡ rest → first_hole (cells_in stretches) (span address (length rest)) ≡ None
+    → read_of (cells_in stretches) (span address size) ≡ Ok (number_of (take size rest))
+read_rest stretches address size rest enough bytes mapped =
+    let memory = cells_in stretches in
+    ap (λ hole. hole_or hole (number_of (bytes_at memory (span address size)))) (no_hole memory address size (length rest) enough mapped)
     ∙ (ap (λ xs. Ok (number_of xs)) (bytes_at-take memory size (length rest) address enough)
     ∙ ap (λ xs. Ok (number_of (take size xs))) bytes)
 
--- the block with a number
-pub region_of : (blocks : List Block) (place : ℕ) → place < length blocks → region_at blocks place ≡ Some ((block_at blocks place).start, length (block_at blocks place).bytes)
+-- the stretch with a number
+pub region_of : (stretches : List MappedStretch) (place : ℕ) → place < length stretches → region_at stretches place ≡ Some ((stretch_at stretches place).start, length (stretch_at stretches place).bytes)
 region_of [] place inside = absurd (omega arith)
-region_of (block ∷ blocks) zero inside = refl
-region_of (block ∷ blocks) (suc place) inside = region_of blocks place (omega arith)
+region_of (stretch ∷ stretches) zero inside = refl
+region_of (stretch ∷ stretches) (suc place) inside = region_of stretches place (omega arith)
 
-pub no_region : (blocks : List Block) (place : ℕ) → length blocks ≤ place → region_at blocks place ≡ None
+pub no_region : (stretches : List MappedStretch) (place : ℕ) → length stretches ≤ place → region_at stretches place ≡ None
 no_region [] place le = refl
-no_region (block ∷ blocks) zero le = absurd (omega arith)
-no_region (block ∷ blocks) (suc place) le = no_region blocks place (omega arith)
+no_region (stretch ∷ stretches) zero le = absurd (omega arith)
+no_region (stretch ∷ stretches) (suc place) le = no_region stretches place (omega arith)
 
 -- whether an address is mapped, and writable
-pub mapped_is : (blocks : List Block) (address : ℕ) (place : Option ℕ) → AreInOrder blocks → MatchOption place (IsNowhere blocks address) (λ n. HasAddress blocks n address)
-    → is_some place ≡ is_mapped (memory_of blocks) address
-mapped_is blocks address None order is = sym (ap (λ (o : Option Cell). is_some o) (nowhere blocks address is.missed))
-mapped_is blocks address (Some place) order is = sym (ap (λ (o : Option Cell). is_some o) (cell_of 0 blocks place address order.rise is))
+pub mapped_is : (stretches : List MappedStretch) (address : ℕ) (place : Option ℕ) → AreInOrder stretches → MatchOption place (IsNowhere stretches address) (λ n. HasAddress stretches n address)
+    → is_some place ≡ is_mapped (cells_in stretches) address
+mapped_is stretches address None order is = sym (ap (λ (o : Option Cell). is_some o) (nowhere stretches address is.missed))
+mapped_is stretches address (Some place) order is = sym (ap (λ (o : Option Cell). is_some o) (cell_of 0 stretches place address order.rise is))
 
-pub writable_is : (blocks : List Block) (place address : ℕ) → AreInOrder blocks → HasAddress blocks place address
-    → (block_at blocks place).writable ≡ is_writable (memory_of blocks) address
-writable_is blocks place address order is = sym (ap is_writable_cell (cell_of 0 blocks place address order.rise is))
+pub writable_is : (stretches : List MappedStretch) (place address : ℕ) → AreInOrder stretches → HasAddress stretches place address
+    → (stretch_at stretches place).writable ≡ is_writable (cells_in stretches) address
+writable_is stretches place address order is = sym (ap is_writable_cell (cell_of 0 stretches place address order.rise is))
 
-pub not_writable : (blocks : List Block) (address : ℕ) → IsNowhere blocks address → false ≡ is_writable (memory_of blocks) address
-not_writable blocks address is = sym (ap is_writable_cell (nowhere blocks address is.missed))
+pub not_writable : (stretches : List MappedStretch) (address : ℕ) → IsNowhere stretches address → false ≡ is_writable (cells_in stretches) address
+not_writable stretches address is = sym (ap is_writable_cell (nowhere stretches address is.missed))

@@ -1,7 +1,6 @@
 pub mod Answers
 pub mod Memory
-pub mod Blocks
+pub mod Stretches
 pub mod Outline
-pub mod Stored
-pub mod Places
-pub mod Sides
+pub mod Laws
+pub mod Inner

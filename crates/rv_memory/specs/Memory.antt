@@ -1,7 +1,7 @@
 -- Memory as a list of cells, one for each mapped byte, and accesses over lists of addresses. An access of some bytes is
 -- carried out byte by byte, also where it isn't aligned and where it goes round the end of the address space: the manual
 -- leaves what isn't aligned to the environment (section 2.6), and this is this project's own.
-use Rattle.std.specs.Prelude.{ℕ, zero, suc, ◌+◌, Bool, false, not, List, [], ◌∷◌, map, Option, None, Some, is_some, if◌then◌else◌, ◌==◌}
+use Rattle.std.specs.Prelude.{ℕ, zero, suc, ◌+◌, Bool, false, not, ◌≤◌, List, [], ◌∷◌, map, ⊤, Option, None, Some, is_some, if◌then◌else◌, ◌==◌}
 use Rattle.std.specs.List.{find}
 use Rattle.rv_code.specs.Numbers.{wrap}
 
@@ -26,6 +26,14 @@ is_writable_cell (Some cell) = cell.writable
 
 abbrev pub is_writable : List Cell → ℕ → Bool
 is_writable memory address = is_writable_cell (cell_at memory address)
+
+-- whether a byte is mapped at an address, and then whether it can be written
+abbrev pub permission_of : Option Cell → Option Bool
+permission_of None = None
+permission_of (Some cell) = Some cell.writable
+
+abbrev pub permission_at : List Cell → ℕ → Option Bool
+permission_at memory address = permission_of (cell_at memory address)
 
 -- the byte of a cell, 0 where there is none
 abbrev pub byte_of_cell : Option Cell → ℕ
@@ -62,3 +70,8 @@ abbrev pub written : List Cell → List ℕ → List ℕ → List Cell
 written memory [] bytes = memory
 written memory (address ∷ addresses) [] = memory
 written memory (address ∷ addresses) (byte ∷ bytes) = written (map (with_byte address byte) memory) addresses bytes
+
+-- cells from this address on, each behind the one before: so no address has two
+abbrev pub Rise : ℕ → List Cell → Type 0
+Rise low [] = ⊤
+Rise low (cell ∷ cells) = (low ≤ cell.address) × Rise (suc cell.address) cells

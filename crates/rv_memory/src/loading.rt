@@ -1,19 +1,15 @@
 //! The stretches of an image: its regions, and the stack among them.
 ghost use Rattle.std.specs.Prelude.{◌≡◌, ◌++◌, true, map, replicate, IfOk};
-ghost use Rattle.rv_memory.specs.Blocks.{block_of, blocks_of, stack};
-ghost use Rattle.rv_memory.specs.Sides.{is_on_side, on_side};
+ghost use Rattle.rv_memory.specs.Stretches.{stretch_of, stretches_of, stack};
+ghost use Rattle.rv_memory.specs.Inner.Sides.{is_on_side, on_side};
 
 use crate::stretch::Stretch;
-use rv_code::Region;
+use rv_code::{Region, STACK_LENGTH, STACK_START};
 use std::alloc::{AllocError, Global};
 
-const STACK_START: u32 = 0x7ff0_0000;
-
-const STACK_LENGTH: usize = 0x10_0000;
-
 /// The stretches in the order of their addresses, the stack among them.
-pub fn stretches_of(alloc: Global, regions: &[Region]) -> Result<Vec<Stretch>, AllocError>
-    ensures { IfOk result (λ stretches. stretches.items ≡ blocks_of regions.now) }
+pub(crate) fn stretches_of(alloc: Global, regions: &[Region]) -> Result<Vec<Stretch>, AllocError>
+    ensures { IfOk result (λ stretches. stretches.items ≡ stretches_of regions.now) }
 {
     let mut stretches = Vec::with_capacity(alloc, regions.len() + 1)?;
     add_side(alloc, &mut stretches, regions, true)?;
@@ -29,7 +25,7 @@ fn add_side(
     regions: &[Region],
     below: bool,
 ) -> Result<(), AllocError>
-    ensures { IfOk result (λ _. stretches.new.items ≡ stretches.old.items ++ map block_of (on_side below regions.now)) }
+    ensures { IfOk result (λ _. stretches.new.items ≡ stretches.old.items ++ map stretch_of (on_side below regions.now)) }
 {
     for region in regions {
         if is_at(region, below) {
@@ -52,7 +48,7 @@ fn is_at(region: &Region, below: bool) -> bool
 
 /// A region's bytes, and then its zeros.
 fn stretch_of(alloc: Global, region: &Region) -> Result<Stretch, AllocError>
-    ensures { IfOk result (λ stretch. stretch ≡ block_of region.now) }
+    ensures { IfOk result (λ stretch. stretch ≡ stretch_of region.now) }
 {
     let front = region.bytes.as_slice();
     let length = front.len() + region.zeros as usize;
@@ -66,7 +62,7 @@ fn stretch_of(alloc: Global, region: &Region) -> Result<Stretch, AllocError>
 fn stack_stretch(alloc: Global) -> Result<Stretch, AllocError>
     ensures { IfOk result (λ stretch. stretch ≡ stack) }
 {
-    zeros_from(alloc, STACK_START, STACK_LENGTH)
+    zeros_from(alloc, STACK_START, STACK_LENGTH as usize)
 }
 
 /// Zeros that can be written, from an address on.

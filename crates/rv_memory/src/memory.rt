@@ -1,11 +1,9 @@
 ghost use Rattle.std.specs.Prelude.{◌≡◌, ◌⊎◌, ◌^◌, ◌<◌, true, false, None, [], length, IfOk, IfErr};
-ghost use Rattle.rv_code.specs.Image.{IsImage};
 ghost use Rattle.rv_code.specs.Numbers.{bytes_of, number_of};
-ghost use Rattle.rv_memory.specs.Answers.{hole_or};
-ghost use Rattle.rv_memory.specs.Blocks.{blocks_of, memory_of};
+ghost use Rattle.rv_memory.specs.Answers.{hole_or, read_at};
+ghost use Rattle.rv_memory.specs.Stretches.{mapping_of, memory_of};
 ghost use Rattle.rv_memory.specs.Memory.{is_mapped, is_writable, span, bytes_at, first_hole, first_shut, written};
-ghost use Rattle.rv_memory.specs.Outline.{outline, region_at};
-ghost use Rattle.rv_memory.specs.Places.{bytes_behind};
+ghost use Rattle.rv_memory.specs.Outline.{outline, region_at, bytes_behind};
 
 use crate::Hole;
 use crate::loading::stretches_of;
@@ -26,14 +24,13 @@ pub struct Memory {
 }
 
 impl Model for Memory {
-    ghost use Rattle.std.specs.Prelude.{List};
-    ghost use Rattle.rv_memory.specs.Blocks.{Block};
+    ghost use Rattle.rv_memory.specs.Stretches.{Mapping};
 
-    ghost Value = { List Block };
+    ghost Value = { Mapping };
 
     ghost use Rattle.rv_memory.specs.Outline.{AreInOrder};
 
-    ghost view = { λ memory. memory.stretches.items };
+    ghost view = { λ memory. record { stretches = memory.stretches.items } };
 
     ghost invariant = { λ memory. AreInOrder memory.stretches.items };
 }
@@ -41,8 +38,7 @@ impl Model for Memory {
 impl Memory {
     /// The memory of an image before its first step. The only error is want of memory.
     pub fn load(alloc: Global, image: &Image) -> Result<Memory, AllocError>
-        requires { IsImage image.now }
-        ensures { IfOk result (λ memory. memory ≡ blocks_of image.now.regions) }
+        ensures { IfOk result (λ memory. memory ≡ mapping_of image.now.regions) }
     {
         let stretches = stretches_of(alloc, image.regions.as_slice())?;
         Ok(Memory { stretches })
@@ -55,7 +51,7 @@ impl Memory {
     /// The first address of them where nothing is mapped.
     pub fn read(&self, address: u32, size: u8) -> Result<u32, Hole>
         requires { (size ≡ 1) ⊎ ((size ≡ 2) ⊎ (size ≡ 4)) }
-        ensures answer { result ≡ hole_or (first_hole (memory_of self.now) (span address size)) (number_of (bytes_at (memory_of self.now) (span address size))) }
+        ensures answer { result ≡ read_at (memory_of self.now) address size }
         ensures small { IfOk result (λ number. number < 256 ^ size) }
     {
         fetch(&self.stretches, address, size)
@@ -79,7 +75,7 @@ impl Memory {
         ensures answer { result ≡ hole_or (first_shut (memory_of self.old) (span address size)) tt }
         ensures put { IfOk result (λ _. memory_of self.new ≡ written (memory_of self.old) (span address size) (bytes_of size value)) }
         ensures kept { IfErr result (λ _. self.new ≡ self.old) }
-        ensures outline { outline self.new ≡ outline self.old }
+        ensures outline { outline self.new.stretches ≡ outline self.old.stretches }
     {
         store(&mut self.stretches, address, size, value)
     }
@@ -88,7 +84,7 @@ impl Memory {
     pub fn put(&mut self, address: u32, bytes: &[u8])
         requires { first_shut (memory_of self.old) (span address (length bytes.now)) ≡ None }
         ensures put { memory_of self.new ≡ written (memory_of self.old) (span address (length bytes.now)) bytes.now }
-        ensures outline { outline self.new ≡ outline self.old }
+        ensures outline { outline self.new.stretches ≡ outline self.old.stretches }
     {
         store_all(&mut self.stretches, address, bytes)
     }
@@ -110,14 +106,14 @@ impl Memory {
     /// The start and the length of the region with this number, counted from 0 in the order of addresses, the stack among
     /// them.
     pub fn region(&self, number: u32) -> Option<(u32, u32)>
-        ensures { result ≡ region_at self.now number }
+        ensures { result ≡ region_at self.now.stretches number }
     {
         extent_of(&self.stretches, number)
     }
 
     /// The bytes from an address to the end of its region, none where it isn't mapped.
     pub fn bytes_from(&self, address: u32) -> &[u8]
-        ensures to_the_end { result.now ≡ bytes_behind self.now address }
+        ensures to_the_end { result.now ≡ bytes_behind self.now.stretches address }
         ensures bytes { bytes_at (memory_of self.now) (span address (length result.now)) ≡ result.now }
         ensures mapped { first_hole (memory_of self.now) (span address (length result.now)) ≡ None }
         ensures empty { result.now ≡ [] → is_mapped (memory_of self.now) address ≡ false }
@@ -129,7 +125,7 @@ impl Memory {
     pub fn room_from(&self, address: u32) -> usize
         ensures free { first_shut (memory_of self.now) (span address result) ≡ None }
         ensures none { result ≡ 0 → is_writable (memory_of self.now) address ≡ false }
-        ensures to_the_end { is_writable (memory_of self.now) address ≡ true → result ≡ length (bytes_behind self.now address) }
+        ensures to_the_end { is_writable (memory_of self.now) address ≡ true → result ≡ length (bytes_behind self.now.stretches address) }
     {
         room_at(&self.stretches, address)
     }

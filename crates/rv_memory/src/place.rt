@@ -1,12 +1,12 @@
 //! Finding the stretch that an address lies in, by binary search.
 ghost use Rattle.std.specs.Prelude.{◌≡◌, ◌<◌, ◌≤◌, ◌≢◌, length, MatchOption};
 ghost use Rattle.rv_memory.specs.Outline.{AreInOrder};
-ghost use Rattle.rv_memory.specs.Places.{HasAddress, IsNowhere};
+ghost use Rattle.rv_memory.specs.Inner.Places.{HasAddress, IsNowhere};
 
 use crate::stretch::Stretch;
 
 /// The number of the stretch that the address lies in.
-pub fn place_of(stretches: &[Stretch], address: u32) -> Option<usize>
+pub(crate) fn place_of(stretches: &[Stretch], address: u32) -> Option<usize>
     requires { AreInOrder stretches.now }
     ensures { MatchOption result (IsNowhere stretches.now address) (λ place. HasAddress stretches.now place address) }
 {
@@ -32,7 +32,7 @@ pub fn place_of(stretches: &[Stretch], address: u32) -> Option<usize>
 }
 
 /// The number of the stretch that the address lies in. The stretch with the number `near` is looked at first.
-pub fn near_place(stretches: &[Stretch], near: usize, address: u32) -> Option<usize>
+pub(crate) fn near_place(stretches: &[Stretch], near: usize, address: u32) -> Option<usize>
     requires { AreInOrder stretches.now }
     ensures { MatchOption result (IsNowhere stretches.now address) (λ place. HasAddress stretches.now place address) }
 {

@@ -1,18 +1,17 @@
 //! Reads of bytes, wherever they lie.
 ghost use Rattle.std.specs.Prelude.{◌≡◌, ◌⊎◌, ◌^◌, ◌<◌, ◌≤◌, true, false, None, [], length, take, IfOk};
 ghost use Rattle.rv_code.specs.Numbers.{number_of};
-ghost use Rattle.rv_memory.specs.Answers.{hole_or};
-ghost use Rattle.rv_memory.specs.Blocks.{memory_of};
+ghost use Rattle.rv_memory.specs.Answers.{read_at};
+ghost use Rattle.rv_memory.specs.Stretches.{cells_in};
 ghost use Rattle.rv_memory.specs.Memory.{is_mapped, is_writable, byte_at, span, bytes_at, first_hole, first_shut};
-ghost use Rattle.rv_memory.specs.Outline.{AreInOrder, region_at};
-ghost use Rattle.rv_memory.specs.Places.{bytes_behind};
+ghost use Rattle.rv_memory.specs.Outline.{AreInOrder, region_at, bytes_behind};
 
 use crate::Hole;
 use crate::place::{near_place, place_of};
 use crate::stretch::Stretch;
 
 /// The number of the first `size` bytes, the lowest first.
-pub fn number_from(bytes: &[u8], size: u8) -> u32
+pub(crate) fn number_from(bytes: &[u8], size: u8) -> u32
     requires size { (size ≡ 1) ⊎ ((size ≡ 2) ⊎ (size ≡ 4)) }
     requires enough { size ≤ length bytes.now }
     ensures number { result ≡ number_of (take size bytes.now) }
@@ -26,17 +25,17 @@ pub fn number_from(bytes: &[u8], size: u8) -> u32
 }
 
 /// Whether a byte is mapped at the address.
-pub fn mapped_at(stretches: &[Stretch], address: u32) -> bool
+pub(crate) fn mapped_at(stretches: &[Stretch], address: u32) -> bool
     requires { AreInOrder stretches.now }
-    ensures { result ≡ is_mapped (memory_of stretches.now) address }
+    ensures { result ≡ is_mapped (cells_in stretches.now) address }
 {
     place_of(stretches, address).is_some()
 }
 
 /// Whether a byte that can be written is mapped at the address.
-pub fn writable_at(stretches: &[Stretch], address: u32) -> bool
+pub(crate) fn writable_at(stretches: &[Stretch], address: u32) -> bool
     requires { AreInOrder stretches.now }
-    ensures { result ≡ is_writable (memory_of stretches.now) address }
+    ensures { result ≡ is_writable (cells_in stretches.now) address }
 {
     match place_of(stretches, address) {
         Some(place) => stretches[place].is_writable(),
@@ -45,7 +44,7 @@ pub fn writable_at(stretches: &[Stretch], address: u32) -> bool
 }
 
 /// The start and the length of the stretch with this number.
-pub fn extent_of(stretches: &[Stretch], number: u32) -> Option<(u32, u32)>
+pub(crate) fn extent_of(stretches: &[Stretch], number: u32) -> Option<(u32, u32)>
     requires { AreInOrder stretches.now }
     ensures { result ≡ region_at stretches.now number }
 {
@@ -59,12 +58,12 @@ pub fn extent_of(stretches: &[Stretch], number: u32) -> Option<(u32, u32)>
 }
 
 /// The bytes from an address to the end of its stretch, none where it lies in no stretch.
-pub fn rest_from(stretches: &[Stretch], address: u32) -> &[u8]
+pub(crate) fn rest_from(stretches: &[Stretch], address: u32) -> &[u8]
     requires { AreInOrder stretches.now }
     ensures to_the_end { result.now ≡ bytes_behind stretches.now address }
-    ensures bytes { bytes_at (memory_of stretches.now) (span address (length result.now)) ≡ result.now }
-    ensures mapped { first_hole (memory_of stretches.now) (span address (length result.now)) ≡ None }
-    ensures empty { result.now ≡ [] → is_mapped (memory_of stretches.now) address ≡ false }
+    ensures bytes { bytes_at (cells_in stretches.now) (span address (length result.now)) ≡ result.now }
+    ensures mapped { first_hole (cells_in stretches.now) (span address (length result.now)) ≡ None }
+    ensures empty { result.now ≡ [] → is_mapped (cells_in stretches.now) address ≡ false }
 {
     match place_of(stretches, address) {
         Some(place) => {
@@ -76,10 +75,10 @@ pub fn rest_from(stretches: &[Stretch], address: u32) -> &[u8]
 }
 
 /// The number that `size` bytes from an address on have. Where they lie in one stretch, it is looked up once.
-pub fn fetch(stretches: &[Stretch], address: u32, size: u8) -> Result<u32, Hole>
+pub(crate) fn fetch(stretches: &[Stretch], address: u32, size: u8) -> Result<u32, Hole>
     requires order { AreInOrder stretches.now }
     requires size { (size ≡ 1) ⊎ ((size ≡ 2) ⊎ (size ≡ 4)) }
-    ensures answer { result ≡ hole_or (first_hole (memory_of stretches.now) (span address size)) (number_of (bytes_at (memory_of stretches.now) (span address size))) }
+    ensures answer { result ≡ read_at (cells_in stretches.now) address size }
     ensures small { IfOk result (λ number. number < 256 ^ size) }
 {
     let bytes = rest_from(stretches, address);
@@ -91,11 +90,11 @@ pub fn fetch(stretches: &[Stretch], address: u32, size: u8) -> Result<u32, Hole>
 }
 
 /// Reads byte by byte, from the lowest on.
-pub fn gather(stretches: &[Stretch], address: u32, count: u8) -> Result<u32, Hole>
+pub(crate) fn gather(stretches: &[Stretch], address: u32, count: u8) -> Result<u32, Hole>
     requires order { AreInOrder stretches.now }
     requires few { count ≤ 4 }
     ensures small { IfOk result (λ number. number < 256 ^ count) }
-    ensures answer { result ≡ hole_or (first_hole (memory_of stretches.now) (span address count)) (number_of (bytes_at (memory_of stretches.now) (span address count))) }
+    ensures answer { result ≡ read_at (cells_in stretches.now) address count }
 {
     if count == 0 {
         return Ok(0);
@@ -111,9 +110,9 @@ pub fn gather(stretches: &[Stretch], address: u32, count: u8) -> Result<u32, Hol
 
 /// The number of four bytes from an address on. A byte that isn't mapped counts as 0. `near` is the number of the stretch
 /// where the last ones were found, which is looked at first.
-pub fn word_near(stretches: &[Stretch], near: &mut usize, address: u32) -> u32
+pub(crate) fn word_near(stretches: &[Stretch], near: &mut usize, address: u32) -> u32
     requires { AreInOrder stretches.now }
-    ensures { result ≡ number_of (bytes_at (memory_of stretches.now) (span address 4)) }
+    ensures { result ≡ number_of (bytes_at (cells_in stretches.now) (span address 4)) }
 {
     if let Some(place) = near_place(stretches, *near, address) {
         *near = place;
@@ -129,7 +128,7 @@ pub fn word_near(stretches: &[Stretch], near: &mut usize, address: u32) -> u32
 /// The same, byte by byte.
 fn word_by_byte(stretches: &[Stretch], address: u32) -> u32
     requires { AreInOrder stretches.now }
-    ensures { result ≡ number_of (bytes_at (memory_of stretches.now) (span address 4)) }
+    ensures { result ≡ number_of (bytes_at (cells_in stretches.now) (span address 4)) }
 {
     u32::from_le_bytes([
         byte_or_zero(stretches, address),
@@ -142,7 +141,7 @@ fn word_by_byte(stretches: &[Stretch], address: u32) -> u32
 /// The byte at an address, 0 where none is mapped.
 fn byte_or_zero(stretches: &[Stretch], address: u32) -> u8
     requires { AreInOrder stretches.now }
-    ensures { result ≡ byte_at (memory_of stretches.now) address }
+    ensures { result ≡ byte_at (cells_in stretches.now) address }
 {
     match place_of(stretches, address) {
         Some(place) => {
@@ -154,11 +153,11 @@ fn byte_or_zero(stretches: &[Stretch], address: u32) -> u8
 }
 
 /// How many bytes from an address to the end of its stretch can be written.
-pub fn room_at(stretches: &[Stretch], address: u32) -> usize
+pub(crate) fn room_at(stretches: &[Stretch], address: u32) -> usize
     requires { AreInOrder stretches.now }
-    ensures free { first_shut (memory_of stretches.now) (span address result) ≡ None }
-    ensures none { result ≡ 0 → is_writable (memory_of stretches.now) address ≡ false }
-    ensures to_the_end { is_writable (memory_of stretches.now) address ≡ true → result ≡ length (bytes_behind stretches.now address) }
+    ensures free { first_shut (cells_in stretches.now) (span address result) ≡ None }
+    ensures none { result ≡ 0 → is_writable (cells_in stretches.now) address ≡ false }
+    ensures to_the_end { is_writable (cells_in stretches.now) address ≡ true → result ≡ length (bytes_behind stretches.now address) }
 {
     match place_of(stretches, address) {
         Some(place) if stretches[place].is_writable() => {

@@ -5,27 +5,27 @@ use std::marker::Model;
 
 /// Mapped bytes, one behind the other.
 #[derive(Debug, Drop)]
-pub struct Stretch {
+pub(crate) struct Stretch {
     start: u32,
     bytes: Vec<u8>,
     writable: bool,
 }
 
 impl Model for Stretch {
-    ghost use Rattle.rv_memory.specs.Blocks.{Block};
+    ghost use Rattle.rv_memory.specs.Stretches.{MappedStretch};
 
-    ghost Value = { Block };
+    ghost Value = { MappedStretch };
 
     ghost view = { λ s. record { start = s.start; bytes = s.bytes.items; writable = s.writable } };
 }
 
 impl Stretch {
-    ghost use Rattle.rv_memory.specs.Blocks.{Block};
-    ghost use Rattle.rv_memory.specs.Outline.{block_end};
-    ghost use Rattle.rv_memory.specs.Stored.{with_bytes, stored};
+    ghost use Rattle.rv_memory.specs.Stretches.{MappedStretch};
+    ghost use Rattle.rv_memory.specs.Outline.{stretch_end};
+    ghost use Rattle.rv_memory.specs.Inner.Stored.{with_bytes, stored};
 
     /// These bytes, from this address on.
-    pub fn new(start: u32, bytes: Vec<u8>, writable: bool) -> Self
+    pub(crate) fn new(start: u32, bytes: Vec<u8>, writable: bool) -> Self
         ensures { result ≡ record { start = start; bytes = bytes.items; writable = writable } }
     {
         Stretch {
@@ -36,35 +36,35 @@ impl Stretch {
     }
 
     /// The first byte's address.
-    pub fn start(&self) -> u32
+    pub(crate) fn start(&self) -> u32
         ensures { result ≡ self.now.start }
     {
         self.start
     }
 
     /// How many bytes there are.
-    pub fn len(&self) -> usize
+    pub(crate) fn len(&self) -> usize
         ensures { result ≡ length self.now.bytes }
     {
         self.bytes.len()
     }
 
     /// Whether the bytes can be written.
-    pub fn is_writable(&self) -> bool
+    pub(crate) fn is_writable(&self) -> bool
         ensures { result ≡ self.now.writable }
     {
         self.writable
     }
 
     /// Whether one of the bytes has this address.
-    pub fn has_address(&self, address: u32) -> bool
-        ensures { IsTrue result ↔ (self.now.start ≤ address) × (address < block_end self.now) }
+    pub(crate) fn has_address(&self, address: u32) -> bool
+        ensures { IsTrue result ↔ (self.now.start ≤ address) × (address < stretch_end self.now) }
     {
         address >= self.start && ((address - self.start) as usize) < self.bytes.len()
     }
 
     /// The bytes from this place on.
-    pub fn from_place(&self, place: usize) -> &[u8]
+    pub(crate) fn from_place(&self, place: usize) -> &[u8]
         requires { place ≤ length self.now.bytes }
         ensures { result.now ≡ drop place self.now.bytes }
     {
@@ -72,7 +72,7 @@ impl Stretch {
     }
 
     /// The byte at this place.
-    pub fn byte(&self, place: usize) -> u8
+    pub(crate) fn byte(&self, place: usize) -> u8
         requires { place < length self.now.bytes }
         ensures { result ≡ slice_index self.now.bytes place }
     {
@@ -80,7 +80,7 @@ impl Stretch {
     }
 
     /// Puts the lowest `size` bytes of a value from this place on, the lowest first.
-    pub fn store(&mut self, place: usize, size: u8, value: u32)
+    pub(crate) fn store(&mut self, place: usize, size: u8, value: u32)
         requires size { (size ≡ 1) ⊎ ((size ≡ 2) ⊎ (size ≡ 4)) }
         requires within { place + size ≤ length self.old.bytes }
         ensures { self.new ≡ with_bytes self.old (stored self.old.bytes place (bytes_of size value)) }
@@ -97,7 +97,7 @@ impl Stretch {
     }
 
     /// Puts bytes over others, from this place on.
-    pub fn store_bytes(&mut self, place: usize, bytes: &[u8])
+    pub(crate) fn store_bytes(&mut self, place: usize, bytes: &[u8])
         requires { place + length bytes.now ≤ length self.old.bytes }
         ensures { self.new ≡ with_bytes self.old (stored self.old.bytes place bytes.now) }
     {

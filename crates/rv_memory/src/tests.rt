@@ -1,6 +1,5 @@
-ghost use Rattle.std.specs.Prelude.{◌≡◌, IfOk};
-ghost use Rattle.rv_code.specs.Image.{IsImage};
-ghost use Rattle.rv_memory.specs.Blocks.{memory_of};
+ghost use Rattle.std.specs.Prelude.{◌≡◌};
+ghost use Rattle.rv_memory.specs.Stretches.{memory_of};
 ghost use Rattle.rv_memory.specs.Memory.{span, first_shut};
 
 use crate::{Hole, Memory};
@@ -10,9 +9,7 @@ use std::test::Fail;
 
 /// An image whose regions meet: three at the start of the address space, and one at its end. The first can't be written,
 /// and has the one code word.
-fn sample(alloc: Global) -> Result<Image, AllocError>
-    ensures { IfOk result IsImage }
-{
+fn sample(alloc: Global) -> Result<Image, AllocError> {
     let first = Region {
         start: 0,
         bytes: ListOf::from_vec(vec![in alloc; 0x13, 0, 0, 0, 0x44, 0x55]?),

@@ -2,7 +2,7 @@
 ghost use Rattle.std.specs.Prelude.{◌≡◌, ◌⊎◌, ◌^◌, ◌<◌, ◌≤◌, true, None, length, map, take, IfOk, IfErr};
 ghost use Rattle.rv_code.specs.Numbers.{bytes_of};
 ghost use Rattle.rv_memory.specs.Answers.{hole_or};
-ghost use Rattle.rv_memory.specs.Blocks.{memory_of};
+ghost use Rattle.rv_memory.specs.Stretches.{cells_in};
 ghost use Rattle.rv_memory.specs.Memory.{is_writable, span, first_shut, with_byte, written};
 ghost use Rattle.rv_memory.specs.Outline.{AreInOrder, outline};
 
@@ -12,9 +12,9 @@ use crate::reading::writable_at;
 use crate::stretch::Stretch;
 
 /// The first of `count` addresses that can't be written.
-pub fn shut_from(stretches: &[Stretch], address: u32, count: u8) -> Option<u32>
+pub(crate) fn shut_from(stretches: &[Stretch], address: u32, count: u8) -> Option<u32>
     requires { AreInOrder stretches.now }
-    ensures { result ≡ first_shut (memory_of stretches.now) (span address count) }
+    ensures { result ≡ first_shut (cells_in stretches.now) (span address count) }
 {
     if count == 0 {
         None
@@ -26,10 +26,10 @@ pub fn shut_from(stretches: &[Stretch], address: u32, count: u8) -> Option<u32>
 }
 
 /// Puts a byte at an address that can be written.
-pub fn put_byte(stretches: &mut [Stretch], address: u32, byte: u8)
+pub(crate) fn put_byte(stretches: &mut [Stretch], address: u32, byte: u8)
     requires order { AreInOrder stretches.old }
-    requires free { is_writable (memory_of stretches.old) address ≡ true }
-    ensures put { memory_of stretches.new ≡ map (with_byte address byte) (memory_of stretches.old) }
+    requires free { is_writable (cells_in stretches.old) address ≡ true }
+    ensures put { cells_in stretches.new ≡ map (with_byte address byte) (cells_in stretches.old) }
     ensures outline { outline stretches.new ≡ outline stretches.old }
 {
     if let Some(place) = place_of(stretches, address) {
@@ -40,10 +40,10 @@ pub fn put_byte(stretches: &mut [Stretch], address: u32, byte: u8)
 }
 
 /// Writes byte by byte, from the lowest on.
-pub fn scatter(stretches: &mut [Stretch], address: u32, count: u8, value: u32)
+pub(crate) fn scatter(stretches: &mut [Stretch], address: u32, count: u8, value: u32)
     requires order { AreInOrder stretches.old }
-    requires free { first_shut (memory_of stretches.old) (span address count) ≡ None }
-    ensures put { memory_of stretches.new ≡ written (memory_of stretches.old) (span address count) (bytes_of count value) }
+    requires free { first_shut (cells_in stretches.old) (span address count) ≡ None }
+    ensures put { cells_in stretches.new ≡ written (cells_in stretches.old) (span address count) (bytes_of count value) }
     ensures outline { outline stretches.new ≡ outline stretches.old }
 {
     if count > 0 {
@@ -53,11 +53,16 @@ pub fn scatter(stretches: &mut [Stretch], address: u32, count: u8, value: u32)
 }
 
 /// Puts the lowest `size` bytes of a value from an address on. Where they lie in one stretch, it is looked up once.
-pub fn store(stretches: &mut [Stretch], address: u32, size: u8, value: u32) -> Result<(), Hole>
+pub(crate) fn store(
+    stretches: &mut [Stretch],
+    address: u32,
+    size: u8,
+    value: u32,
+) -> Result<(), Hole>
     requires order { AreInOrder stretches.old }
     requires size { (size ≡ 1) ⊎ ((size ≡ 2) ⊎ (size ≡ 4)) }
-    ensures answer { result ≡ hole_or (first_shut (memory_of stretches.old) (span address size)) tt }
-    ensures put { IfOk result (λ _. memory_of stretches.new ≡ written (memory_of stretches.old) (span address size) (bytes_of size value)) }
+    ensures answer { result ≡ hole_or (first_shut (cells_in stretches.old) (span address size)) tt }
+    ensures put { IfOk result (λ _. cells_in stretches.new ≡ written (cells_in stretches.old) (span address size) (bytes_of size value)) }
     ensures kept { IfErr result (λ _. stretches.new ≡ stretches.old) }
     ensures outline { outline stretches.new ≡ outline stretches.old }
 {
@@ -82,11 +87,11 @@ pub fn store(stretches: &mut [Stretch], address: u32, size: u8, value: u32) -> R
 fn store_some(stretches: &mut [Stretch], address: u32, bytes: &[u8]) -> usize
     requires order { AreInOrder stretches.old }
     requires some { 0 < length bytes.now }
-    requires free { first_shut (memory_of stretches.old) (span address (length bytes.now)) ≡ None }
+    requires free { first_shut (cells_in stretches.old) (span address (length bytes.now)) ≡ None }
     ensures some { 0 < result }
     ensures few { result ≤ length bytes.now }
     ensures small { result < 2 ^ 32 }
-    ensures put { memory_of stretches.new ≡ written (memory_of stretches.old) (span address result) (take result bytes.now) }
+    ensures put { cells_in stretches.new ≡ written (cells_in stretches.old) (span address result) (take result bytes.now) }
     ensures outline { outline stretches.new ≡ outline stretches.old }
 {
     match place_of(stretches, address) {
@@ -102,10 +107,10 @@ fn store_some(stretches: &mut [Stretch], address: u32, bytes: &[u8]) -> usize
 }
 
 /// Puts bytes from an address on, all of which can be written. Each stretch is looked up once.
-pub fn store_all(stretches: &mut [Stretch], address: u32, bytes: &[u8])
+pub(crate) fn store_all(stretches: &mut [Stretch], address: u32, bytes: &[u8])
     requires order { AreInOrder stretches.old }
-    requires free { first_shut (memory_of stretches.old) (span address (length bytes.now)) ≡ None }
-    ensures put { memory_of stretches.new ≡ written (memory_of stretches.old) (span address (length bytes.now)) bytes.now }
+    requires free { first_shut (cells_in stretches.old) (span address (length bytes.now)) ≡ None }
+    ensures put { cells_in stretches.new ≡ written (cells_in stretches.old) (span address (length bytes.now)) bytes.now }
     ensures outline { outline stretches.new ≡ outline stretches.old }
 {
     if bytes.is_empty() {

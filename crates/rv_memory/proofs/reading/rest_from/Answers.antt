@@ -1,9 +1,9 @@
 use Rattle.std.proofs.Common.{◌≡◌, ◌-◌, Option, drop, sym, ap, ◌∙◌}
 use Rattle.std.specs.Prelude.{is_some}
 use Rattle.std.proofs.lemmas.List.{get_or_read}
-use Rattle.rv_memory.specs.Blocks.{stack}
+use Rattle.rv_memory.specs.Stretches.{stack}
 use Rattle.rv_memory.specs.Memory.{Cell}
-use Rattle.rv_memory.specs.Places.{block_at}
+use Rattle.rv_memory.specs.Inner.Places.{stretch_at}
 use Rattle.rv_memory.proofs.Order.{nowhere}
 use Rattle.rv_memory.proofs.ReadBytes.{AreBehind, are_behind, behind_none}
 use Rattle.rv_memory.proofs.reading.rest_from.Goals as goal
@@ -11,7 +11,7 @@ use Rattle.rv_memory.proofs.reading.rest_from.Goals as goal
 behind : (c : goal.After-from_place) → AreBehind c.args.stretches.now c.args.address c.from_place.result.now
 behind c =
     let stretches = c.args.stretches.now in
-    let found : c.index-stretches-place.result ≡ block_at stretches c.in-Some.place = get_or_read stretches c.in-Some.place c.index-stretches-place.result c.in-Some.ensures.inside c.index-stretches-place.is stack in
+    let found : c.index-stretches-place.result ≡ stretch_at stretches c.in-Some.place = get_or_read stretches c.in-Some.place c.index-stretches-place.result c.in-Some.ensures.inside c.index-stretches-place.is stack in
     are_behind stretches c.in-Some.place c.args.address c.index-stretches-place.result c.from_place.result.now c.requires c.in-Some.ensures found
     (c.from_place.ensures ∙ ap (λ n. drop (c.args.address - n) c.index-stretches-place.result.bytes) c.start.ensures)
 

@@ -10,8 +10,8 @@ regions_with ws xs ys zs =
     record { start = 0; bytes = ws; zeros = 0; writable = false } ∷ record { start = 6; bytes = xs; zeros = 0; writable = true }
     ∷ record { start = 8; bytes = ys; zeros = 2; writable = true } ∷ record { start = 0xfffffffe; bytes = zs; zeros = 0; writable = true } ∷ []
 
-pub returns : goal.returns
-returns c =
+pub invariant_of-result : goal.invariant_of-result
+invariant_of-result c =
     let first_bytes : c.from_vec.result ≡ first.bytes = c.from_vec.ensures ∙ c.in_ok-vec.ensures.items in
     let second_bytes : c.from_vec-2.result ≡ second.bytes = c.from_vec-2.ensures ∙ c.in_ok-vec-2.ensures.items in
     let third_bytes : c.from_vec-3.result ≡ third.bytes = c.from_vec-3.ensures ∙ c.new.ensures.items in

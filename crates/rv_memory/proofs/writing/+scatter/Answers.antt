@@ -1,13 +1,14 @@
 use Rattle.std.proofs.Common.{ℕ, ◌+◌, ◌-◌, ◌%◌, List, ap, ◌∙◌, arith}
 use Rattle.rv_code.specs.Numbers.{wrap}
-use Rattle.rv_memory.specs.Blocks.{memory_of}
+use Rattle.rv_memory.specs.Stretches.{cells_in}
 use Rattle.rv_memory.specs.Memory.{Cell, span, first_shut}
-use Rattle.rv_memory.proofs.WrittenBytes.{order_kept, shut_rest, shut_kept}
+use Rattle.rv_memory.proofs.LawsOfCells.{shut_kept}
+use Rattle.rv_memory.proofs.WrittenBytes.{order_kept, shut_rest}
 use Rattle.rv_memory.proofs.writing.+scatter.Goals as goal
 
 pub scatter-requires : goal.scatter-requires
 scatter-requires t c =
-    let memory : List Cell = memory_of c.args.stretches.now in
+    let memory : List Cell = cells_in c.args.stretches.now in
     let more : List ℕ = span (wrap (c.args.address + 1)) (c.args.count - 1) in (
       omega arith,
       (

@@ -1,10 +1,10 @@
--- Bytes put into a block.
+-- Bytes put into a stretch.
 use Rattle.std.specs.Prelude.{ℕ, suc, List, [], ◌∷◌, slice_set}
-use Rattle.rv_memory.specs.Blocks.{Block}
+use Rattle.rv_memory.specs.Stretches.{MappedStretch}
 
--- a block with other bytes
-abbrev pub with_bytes : Block → List ℕ → Block
-with_bytes block bytes = record { start = block.start; bytes = bytes; writable = block.writable }
+-- a stretch with other bytes
+abbrev pub with_bytes : MappedStretch → List ℕ → MappedStretch
+with_bytes stretch bytes = record { start = stretch.start; bytes = bytes; writable = stretch.writable }
 
 -- bytes put over others, from this place on
 abbrev pub stored : List ℕ → ℕ → List ℕ → List ℕ

@@ -1,0 +1,4 @@
+-- What inner functions promise to one another. No public contract cites anything of this folder, so nobody has to believe it.
+pub mod Places
+pub mod Sides
+pub mod Stored
