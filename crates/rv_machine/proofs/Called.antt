@@ -1,18 +1,19 @@
 -- From what the calls did to what they are to do.
 use Rattle.std.proofs.Common.{◌≡◌, ◌≢◌, ℕ, ◌+◌, ◌<◌, ◌≤◌, Bool, true, false, cond, eqb, List, [], ◌++◌, length, take, drop, Option, None, Some, Result, Ok, Err, IfOk, OnErr, refl, sym, ap, ◌∙◌, subst, inl, inr, arith, append_assoc}
-use Rattle.std.specs.Prelude.{is_none, nat_lt}
+use Rattle.std.specs.Prelude.{is_none, is_some, nat_lt}
 use Rattle.std.proofs.lemmas.Bool.{cases_Bool, ne_eqb}
 use Rattle.std.proofs.lemmas.Bool.Decides.{nat_tests}
 use Rattle.std.proofs.lemmas.List.{append-nil, take_all, take_at, drop_all, drop_at, take-append-drop}
-use Rattle.ae_nums.specs.declared.item.Item.{Item}
 use Rattle.ae_ports.specs.declared.failed.Failed.{Failed}
 use Rattle.ae_ports.specs.Content.{Consumes, Appends, AppendsFront, IsAtEnd}
 use Rattle.rv_code.specs.declared.ending.Ending.{Ending}
 use Rattle.rv_code.specs.declared.ending.Ending.TheVariants.{Exit}
 use Rattle.rv_code.specs.declared.instr.Instr.TheVariants.{Ecall}
 use Rattle.rv_code.specs.Numbers.{wrap}
-use Rattle.rv_memory.specs.Blocks.{Block, memory_of}
+use Rattle.rv_memory.specs.Stretches.{Mapping, memory_of}
+use Rattle.rv_memory.specs.Outline.{outline}
 use Rattle.rv_memory.specs.Memory.{Cell, span, bytes_at, first_hole, first_shut, written}
+use Rattle.rv_machine.specs.declared.acted.Acted.{Acted}
 use Rattle.rv_machine.specs.declared.outcome.MachineFault.{MachineFault}
 use Rattle.rv_machine.specs.State.{State, register_of, with_register}
 use Rattle.rv_machine.specs.Effect.{Effect, Sets, Gives, Takes, Ends, Channel, Out, Err as ErrChannel, Events}
@@ -21,26 +22,24 @@ use Rattle.rv_machine.specs.Step.{Went, settled}
 use Rattle.rv_machine.specs.Held.{Held, Outside, state_of}
 use Rattle.rv_machine.specs.Ports.{Told, Passed, HasPassed}
 use Rattle.rv_machine.specs.Laws.{IsFrontOf}
-use Rattle.rv_machine.specs.Advance.{made_of, buffer_in, read_in, write_in, WentOn, Stops, Breaks, Acts, Follows, GivenBefore, with_answer, may_give_events, Gave, Receives}
-use Rattle.rv_machine.proofs.BufferBytes.{length-bytes_at, length-span}
-use Rattle.rv_machine.proofs.Passing.{nothing, consumes_nothing, appends_nothing}
+use Rattle.rv_machine.specs.Inner.Advance.{made_of, buffer_in, read_in, write_in, WentOn, Stops, Breaks, Acts, Follows, GivenBefore, with_answer, may_give_events, Gave, Receives}
+use Rattle.rv_memory.proofs.LawsOfCells.{length-bytes_at, length-span}
+use Rattle.rv_machine.proofs.Passing.{nothing, consumes_nothing, appends_nothing, nothing_passed, nothing_follows}
 
 -- an answer without the ports
 pub answered : (held now : Held) (told : Told) (effect : Effect) (code : ℕ) → effect ≡ Sets 10 code None → now ≡ with_answer held code
-    → Acts (made_of effect held) held told (Ok (Ok None)) now told
+    → Acts (made_of effect held) held told (Ok (Acted.Went None)) now told
 answered held now told effect code is_effect is_now =
-    subst (λ e. Acts (made_of e held) held told (Ok (Ok None)) now told) (sym is_effect)
-    (subst (λ (n : Held). Acts (made_of (Sets 10 code None) held) held told (Ok (Ok None)) n told) (sym is_now) went)
+    subst (λ e. Acts (made_of e held) held told (Ok (Acted.Went None)) now told) (sym is_effect)
+    (subst (λ (n : Held). Acts (made_of (Sets 10 code None) held) held told (Ok (Acted.Went None)) n told) (sym is_now) went)
   where
-    follows : (outside : Outside) → Follows outside outside nothing
-    follows outside = record { out = sym (append-nil outside.out); err = sym (append-nil outside.err); events = sym (append-nil outside.events) }
-
     went : WentOn (made_of (Sets 10 code None) held) held told [] (with_answer held code) told
     went = record {
       passed = nothing;
-      ports = record { input = consumes_nothing told.input; out = appends_nothing told.out; err = appends_nothing told.err; events = appends_nothing told.events };
-      step = λ outside known. (outside, follows outside, known, refl);
-      stays = record { program = refl; kept = refl };
+      ports = nothing_passed told;
+      goes = λ outside. (state_of (with_answer held code) outside, refl);
+      step = λ outside known. (outside, nothing_follows outside, known, refl);
+      stays = record { program = refl; note = refl; outline = refl; kept = refl };
     }
 
 -- the end of the run
@@ -117,20 +116,21 @@ told_same Events told now same = ap (λ (n : Option (List ℕ)). told_with Event
 
 -- the bytes of the buffer
 abbrev bytes_in : Held → List ℕ
-bytes_in held = bytes_at (memory_of held.blocks) (buffer_in held)
+bytes_in held = bytes_at (memory_of held.memory) (buffer_in held)
 
 gave_all : (channel : Channel) (held : Held) (told : Told) (now : Option (List ℕ)) → Appends (told_of channel told) now (bytes_in held)
     → WentOn (made_of (Gives channel (bytes_in held)) held) held told [] (with_answer held (length (bytes_in held))) (told_with channel told now)
 gave_all channel held told now gives = record {
   passed = passed_to channel (bytes_in held);
   ports = ports_of channel told now (bytes_in held) gives;
+  goes = λ outside. (state_of (with_answer held (length (bytes_in held))) (given_to channel (bytes_in held) outside), settled_gives channel held (bytes_in held) outside);
   step = λ outside known. (
     given_to channel (bytes_in held) outside,
     follows_to channel (bytes_in held) outside,
     input_with channel told now (bytes_in held) outside known,
     settled_gives channel held (bytes_in held) outside,
   );
-  stays = record { program = refl; kept = refl };
+  stays = record { program = refl; note = refl; outline = refl; kept = refl };
 }
 
 gave_front : (channel : Channel) (held : Held) (told : Told) (now : Option (List ℕ)) → AppendsFront (told_of channel told) now (bytes_in held)
@@ -146,26 +146,26 @@ gave_front channel held told now front =
         settled_gives channel held (bytes_in held) outside,
         given_before channel held (bytes_in held) front.0 outside,
       );
-      stays = record { program = refl; kept = refl };
+      stays = record { program = refl; note = refl; outline = refl; kept = refl };
     }
 
 -- the bytes of the buffer went to a sink, or where that isn't allowed none did
 pub gave : (channel : Channel) (held now : Held) (told : Told) (effect : Effect) (allowed : Bool) (refusal : ℕ) (given : Result Unit Failed) (fault : MachineFault)
-    (result : Result (Result (Option Item) Ending) MachineFault) (told_now : Option (List ℕ))
+    (result : Result Acted MachineFault) (told_now : Option (List ℕ))
     → effect ≡ cond allowed (Gives channel (bytes_in held)) (Sets 10 refusal None)
     → Gave allowed refusal held (told_of channel told) given now told_now
-    → IfOk given (λ _. result ≡ Ok (Ok None)) → OnErr given (result ≡ Err fault)
+    → IfOk given (λ _. result ≡ Ok (Acted.Went None)) → OnErr given (result ≡ Err fault)
     → Acts (made_of effect held) held told result now (told_with channel told told_now)
 gave channel held now told effect false refusal (Err failed) fault result told_now is_effect did ok failed_is = absurd did
 gave channel held now told effect false refusal (Ok done) fault result told_now is_effect did ok failed_is =
     subst (λ r. Acts (made_of effect held) held told r now (told_with channel told told_now)) (sym ok)
-    (subst (λ (t : Told). Acts (made_of effect held) held told (Ok (Ok None)) now t) (sym (told_same channel told told_now did.1))
+    (subst (λ (t : Told). Acts (made_of effect held) held told (Ok (Acted.Went None)) now t) (sym (told_same channel told told_now did.1))
     (answered held now told effect refusal is_effect did.0))
 gave channel held now told effect true refusal (Ok done) fault result told_now is_effect did ok failed_is =
-    let count : length (bytes_in held) ≡ register_of held.registers 12 = length-bytes_at (memory_of held.blocks) (register_of held.registers 11) (register_of held.registers 12) in
+    let count : length (bytes_in held) ≡ register_of held.registers 12 = length-bytes_at (memory_of held.memory) (register_of held.registers 11) (register_of held.registers 12) in
     let is_now : with_answer held (length (bytes_in held)) ≡ now = ap (λ n. with_answer held n) count ∙ sym did.0 in
     subst (λ r. Acts (made_of effect held) held told r now (told_with channel told told_now)) (sym ok)
-    (subst (λ e. Acts (made_of e held) held told (Ok (Ok None)) now (told_with channel told told_now)) (sym is_effect)
+    (subst (λ e. Acts (made_of e held) held told (Ok (Acted.Went None)) now (told_with channel told told_now)) (sym is_effect)
     (subst (λ (n : Held). WentOn (made_of (Gives channel (bytes_in held)) held) held told [] n (told_with channel told told_now)) is_now
     (gave_all channel held told told_now did.1)))
 gave channel held now told effect true refusal (Err failed) fault result told_now is_effect did ok failed_is =
@@ -177,9 +177,9 @@ gave channel held now told effect true refusal (Err failed) fault result told_no
 -- the call write by its tests of the descriptor
 abbrev write_by : (one two three : Bool) → Held → Effect
 write_by one two three held =
-    cond one (write_out Out (buffer_in held) (memory_of held.blocks))
-    (cond two (write_out ErrChannel (buffer_in held) (memory_of held.blocks))
-    (cond three (write_events held.has_note (register_of held.registers 12) (buffer_in held) (memory_of held.blocks)) bad_descriptor))
+    cond one (write_out Out (buffer_in held) (memory_of held.memory))
+    (cond two (write_out ErrChannel (buffer_in held) (memory_of held.memory))
+    (cond three (write_events (is_some held.note) (register_of held.registers 12) (buffer_in held) (memory_of held.memory)) bad_descriptor))
 
 write_is : (held : Held) (one two three : Bool) → eqb (register_of held.registers 10) 1 ≡ one → eqb (register_of held.registers 10) 2 ≡ two
     → eqb (register_of held.registers 10) 3 ≡ three → write_in held ≡ write_by one two three held
@@ -194,12 +194,12 @@ module _ (held : Held) (descriptor : ℕ) (is_descriptor : descriptor ≡ regist
   fails : (n : ℕ) → descriptor ≢ n → eqb (register_of held.registers 10) n ≡ false
   fails n ne = ap (λ m. eqb m n) (sym is_descriptor) ∙ ne_eqb descriptor n ne
 
-  pub to_out : (allowed : Bool) → descriptor ≡ 1 → allowed ≡ is_none (first_hole (memory_of held.blocks) (buffer_in held))
+  pub to_out : (allowed : Bool) → descriptor ≡ 1 → allowed ≡ is_none (first_hole (memory_of held.memory) (buffer_in held))
       → write_in held ≡ cond allowed (Gives Out (bytes_in held)) bad_address
   to_out allowed is is_allowed =
       write_is held true false false (tests 1 1 is) (tests 1 2 is) (tests 1 3 is) ∙ ap (λ t. cond t (Gives Out (bytes_in held)) bad_address) (sym is_allowed)
 
-  pub to_err : (allowed : Bool) → descriptor ≡ 2 → allowed ≡ is_none (first_hole (memory_of held.blocks) (buffer_in held))
+  pub to_err : (allowed : Bool) → descriptor ≡ 2 → allowed ≡ is_none (first_hole (memory_of held.memory) (buffer_in held))
       → write_in held ≡ cond allowed (Gives ErrChannel (bytes_in held)) bad_address
   to_err allowed is is_allowed =
       write_is held false true false (tests 2 1 is) (tests 2 2 is) (tests 2 3 is) ∙ ap (λ t. cond t (Gives ErrChannel (bytes_in held)) bad_address) (sym is_allowed)
@@ -215,22 +215,22 @@ module _ (held : Held) (descriptor : ℕ) (is_descriptor : descriptor ≡ regist
   -- the call read by its tests
   pub read_elsewhere : descriptor ≢ 0 → read_in held ≡ bad_descriptor
   read_elsewhere no_zero =
-      ap (λ t. cond t (cond (is_none (first_shut (memory_of held.blocks) (buffer_in held))) (Takes (buffer_in held)) bad_address) bad_descriptor) (fails 0 no_zero)
+      ap (λ t. cond t (cond (is_none (first_shut (memory_of held.memory) (buffer_in held))) (Takes (buffer_in held)) bad_address) bad_descriptor) (fails 0 no_zero)
 
-  pub read_here : (free : Bool) → descriptor ≡ 0 → is_none (first_shut (memory_of held.blocks) (buffer_in held)) ≡ free
+  pub read_here : (free : Bool) → descriptor ≡ 0 → is_none (first_shut (memory_of held.memory) (buffer_in held)) ≡ free
       → read_in held ≡ cond free (Takes (buffer_in held)) bad_address
   read_here free is is_free =
-      ap (λ t. cond t (cond (is_none (first_shut (memory_of held.blocks) (buffer_in held))) (Takes (buffer_in held)) bad_address) bad_descriptor) (tests 0 0 is)
+      ap (λ t. cond t (cond (is_none (first_shut (memory_of held.memory) (buffer_in held))) (Takes (buffer_in held)) bad_address) bad_descriptor) (tests 0 0 is)
       ∙ ap (λ t. cond t (Takes (buffer_in held)) bad_address) is_free
 
 -- whether the buffer can be written, of a machine that is seen by its parts
 pub free_is : (seen held : Held) (address count : ℕ) (test free : Bool) → seen ≡ held → address ≡ register_of held.registers 11 → count ≡ register_of held.registers 12
-    → test ≡ is_none (first_shut (memory_of seen.blocks) (span address count)) → test ≡ free
-    → is_none (first_shut (memory_of held.blocks) (buffer_in held)) ≡ free
+    → test ≡ is_none (first_shut (memory_of seen.memory) (span address count)) → test ≡ free
+    → is_none (first_shut (memory_of held.memory) (buffer_in held)) ≡ free
 free_is seen held address count test free same is_address is_count tested is_free =
-    ap (λ n. is_none (first_shut (memory_of held.blocks) (span (register_of held.registers 11) n))) (sym is_count)
-    ∙ (ap (λ a. is_none (first_shut (memory_of held.blocks) (span a count))) (sym is_address)
-    ∙ (ap (λ (h : Held). is_none (first_shut (memory_of h.blocks) (span address count))) (sym same) ∙ (sym tested ∙ is_free)))
+    ap (λ n. is_none (first_shut (memory_of held.memory) (span (register_of held.registers 11) n))) (sym is_count)
+    ∙ (ap (λ a. is_none (first_shut (memory_of held.memory) (span a count))) (sym is_address)
+    ∙ (ap (λ (h : Held). is_none (first_shut (memory_of h.memory) (span address count))) (sym same) ∙ (sym tested ∙ is_free)))
 
 -- the input of which these bytes were taken, into a buffer of so many
 record AreTaken (input bytes : List ℕ) (told_now : Option (List ℕ)) (count : ℕ) : Type 0 where
@@ -278,10 +278,10 @@ taking held outside answer memory rest = record {
 }
 
 settled_takes : (held : Held) (outside : Outside) (addresses bytes rest : List ℕ) (got : ℕ) (memory : List Cell) (count : ℕ) → length addresses ≡ count
-    → take count outside.input ≡ bytes → drop count outside.input ≡ rest → length bytes ≡ got → memory ≡ written (memory_of held.blocks) addresses bytes
+    → take count outside.input ≡ bytes → drop count outside.input ≡ rest → length bytes ≡ got → memory ≡ written (memory_of held.memory) addresses bytes
     → settled (state_of held outside) (Takes addresses) ≡ Went (taking held outside got memory rest) []
 settled_takes held outside addresses bytes rest got memory count counted taken left number put =
-    let before : List Cell = memory_of held.blocks in
+    let before : List Cell = memory_of held.memory in
     ap (λ n. Went (taking held outside (length (take n outside.input)) (written before addresses (take n outside.input)) (drop n outside.input)) []) counted
     ∙ (ap (λ (xs : List ℕ). Went (taking held outside (length xs) (written before addresses xs) (drop count outside.input)) []) taken
     ∙ (ap (λ (xs : List ℕ). Went (taking held outside (length bytes) (written before addresses bytes) xs) []) left
@@ -297,17 +297,23 @@ ports_taken told told_now bytes taken =
     record { input = taken; out = appends_nothing told.out; err = appends_nothing told.err; events = appends_nothing told.events }
 
 -- the machine with bytes of the input in its buffer
-abbrev pub with_taken : Held → List Block → ℕ → Held
-with_taken held blocks got = record held { pc = wrap (held.pc + 4); registers = with_register held.registers 10 got; blocks = blocks }
+abbrev pub with_taken : Held → Mapping → ℕ → Held
+with_taken held mapping got = record held { pc = wrap (held.pc + 4); registers = with_register held.registers 10 got; memory = mapping }
 
-went_taken : (held : Held) (told : Told) (told_now : Option (List ℕ)) (blocks : List Block) (got : ℕ)
-    → Receives told.input told_now (memory_of held.blocks) (memory_of blocks) (register_of held.registers 11) (register_of held.registers 12) got
-    → WentOn (made_of (Takes (buffer_in held)) held) held told [] (with_taken held blocks got) (record told { input = told_now })
-went_taken held told told_now blocks got received = record {
+went_taken : (held : Held) (told : Told) (told_now : Option (List ℕ)) (mapping : Mapping) (got : ℕ)
+    → Receives told.input told_now (memory_of held.memory) (memory_of mapping) (register_of held.registers 11) (register_of held.registers 12) got
+    → outline mapping.stretches ≡ outline held.memory.stretches
+    → WentOn (made_of (Takes (buffer_in held)) held) held told [] (with_taken held mapping got) (record told { input = told_now })
+went_taken held told told_now mapping got received lined = record {
   passed = record { taken = received.bytes; out = []; err = []; events = [] };
   ports = ports_taken told told_now received.bytes received.taken;
-  step = λ outside known. goes outside (are outside known);
-  stays = record { program = refl; kept = refl };
+  goes = λ outside. (
+    taking held outside (length (take (length (buffer_in held)) outside.input)) (written (memory_of held.memory) (buffer_in held) (take (length (buffer_in held)) outside.input))
+        (drop (length (buffer_in held)) outside.input),
+    refl,
+  );
+  step = λ outside known. comes outside (are outside known);
+  stays = record { program = refl; note = refl; outline = lined; kept = refl };
 }
   where
     count : ℕ
@@ -318,55 +324,58 @@ went_taken held told told_now blocks got received = record {
         are_taken outside.input received.bytes told.input told_now (register_of held.registers 12) known received.taken (omega (arith, received.number, received.within))
         (λ less. received.end (omega (arith, received.number)))
 
-    goes : (outside : Outside) → AreTaken outside.input received.bytes told_now (register_of held.registers 12)
+    comes : (outside : Outside) → AreTaken outside.input received.bytes told_now (register_of held.registers 12)
         → (next : Outside) × Follows outside next (record { taken = received.bytes; out = []; err = []; events = [] }) × (told_now ≡ Some next.input)
-        × (made_of (Takes (buffer_in held)) held outside ≡ Went (state_of (with_taken held blocks got) next) [])
-    goes outside taken = (
+        × (made_of (Takes (buffer_in held)) held outside ≡ Went (state_of (with_taken held mapping got) next) [])
+    comes outside taken = (
       record outside { input = taken.rest },
       follows_none outside received.bytes taken.rest,
       taken.told,
-      settled_takes held outside (buffer_in held) received.bytes taken.rest got (memory_of blocks) (register_of held.registers 12)
+      settled_takes held outside (buffer_in held) received.bytes taken.rest got (memory_of mapping) (register_of held.registers 12)
           (length-span (register_of held.registers 11) (register_of held.registers 12)) taken.taken taken.left received.number received.put,
     )
 
-breaks_taken : (held : Held) (told : Told) (told_now : Option (List ℕ)) (blocks : List Block) (bytes : List ℕ) → Consumes told.input told_now bytes
-    → Breaks (made_of (Takes (buffer_in held)) held) held told (record held { blocks = blocks }) (record told { input = told_now })
-breaks_taken held told told_now blocks bytes taken = record {
+breaks_taken : (held : Held) (told : Told) (told_now : Option (List ℕ)) (mapping : Mapping) (bytes : List ℕ) → Consumes told.input told_now bytes
+    → outline mapping.stretches ≡ outline held.memory.stretches
+    → Breaks (made_of (Takes (buffer_in held)) held) held told (record held { memory = mapping }) (record told { input = told_now })
+breaks_taken held told told_now mapping bytes taken lined = record {
   passed = record { taken = bytes; out = []; err = []; events = [] };
   ports = ports_taken told told_now bytes taken;
   step = λ outside known. (
-    taking held outside (length (take (length (buffer_in held)) outside.input)) (written (memory_of held.blocks) (buffer_in held) (take (length (buffer_in held)) outside.input))
+    taking held outside (length (take (length (buffer_in held)) outside.input)) (written (memory_of held.memory) (buffer_in held) (take (length (buffer_in held)) outside.input))
         (drop (length (buffer_in held)) outside.input),
     [],
     refl,
     record { out = given_none outside.out; err = given_none outside.err; events = given_none outside.events },
   );
-  stays = record { program = refl; kept = refl };
+  stays = record { program = refl; note = refl; outline = lined; kept = refl };
 }
 
 -- bytes of the input came into the buffer, of a machine that is seen by its parts
-pub took : (seen held now : Held) (told : Told) (told_now : Option (List ℕ)) (blocks : List Block) (address count got : ℕ) → seen ≡ held
+pub took : (seen held now : Held) (told : Told) (told_now : Option (List ℕ)) (mapping : Mapping) (address count got : ℕ) → seen ≡ held
     → read_in held ≡ Takes (buffer_in held) → address ≡ register_of held.registers 11 → count ≡ register_of held.registers 12
-    → Receives told.input told_now (memory_of seen.blocks) (memory_of blocks) address count got → now ≡ with_taken seen blocks got
+    → Receives told.input told_now (memory_of seen.memory) (memory_of mapping) address count got
+    → outline mapping.stretches ≡ outline seen.memory.stretches → now ≡ with_taken seen mapping got
     → WentOn (made_of (read_in held) held) held told [] now (record told { input = told_now })
-took seen held now told told_now blocks address count got same is_effect is_address is_count received is_now =
-    let of_held : Receives told.input told_now (memory_of held.blocks) (memory_of blocks) (register_of held.registers 11) (register_of held.registers 12) got =
-    subst (λ (h : Held). Receives told.input told_now (memory_of h.blocks) (memory_of blocks) (register_of held.registers 11) (register_of held.registers 12) got) same
-    (subst (λ a. Receives told.input told_now (memory_of seen.blocks) (memory_of blocks) a (register_of held.registers 12) got) is_address
-    (subst (λ n. Receives told.input told_now (memory_of seen.blocks) (memory_of blocks) address n got) is_count received)) in
-    let reached : with_taken held blocks got ≡ now = ap (λ (h : Held). with_taken h blocks got) (sym same) ∙ sym is_now in
+took seen held now told told_now mapping address count got same is_effect is_address is_count received lined is_now =
+    let of_held : Receives told.input told_now (memory_of held.memory) (memory_of mapping) (register_of held.registers 11) (register_of held.registers 12) got =
+    subst (λ (h : Held). Receives told.input told_now (memory_of h.memory) (memory_of mapping) (register_of held.registers 11) (register_of held.registers 12) got) same
+    (subst (λ a. Receives told.input told_now (memory_of seen.memory) (memory_of mapping) a (register_of held.registers 12) got) is_address
+    (subst (λ n. Receives told.input told_now (memory_of seen.memory) (memory_of mapping) address n got) is_count received)) in
+    let reached : with_taken held mapping got ≡ now = ap (λ (h : Held). with_taken h mapping got) (sym same) ∙ sym is_now in
     subst (λ e. WentOn (made_of e held) held told [] now (record told { input = told_now })) (sym is_effect)
     (subst (λ (n : Held). WentOn (made_of (Takes (buffer_in held)) held) held told [] n (record told { input = told_now })) reached
-    (went_taken held told told_now blocks got of_held))
+    (went_taken held told told_now mapping got of_held (lined ∙ ap (λ (h : Held). outline h.memory.stretches) same)))
 
 -- the input failed
-pub took_none : (seen held : Held) (told : Told) (told_now : Option (List ℕ)) (blocks : List Block) (bytes : List ℕ) → seen ≡ held
+pub took_none : (seen held : Held) (told : Told) (told_now : Option (List ℕ)) (mapping : Mapping) (bytes : List ℕ) → seen ≡ held
     → read_in held ≡ Takes (buffer_in held) → Consumes told.input told_now bytes
-    → Breaks (made_of (read_in held) held) held told (record seen { blocks = blocks }) (record told { input = told_now })
-took_none seen held told told_now blocks bytes same is_effect taken =
-    subst (λ (h : Held). Breaks (made_of (read_in held) held) held told (record h { blocks = blocks }) (record told { input = told_now })) (sym same)
-    (subst (λ e. Breaks (made_of e held) held told (record held { blocks = blocks }) (record told { input = told_now })) (sym is_effect)
-    (breaks_taken held told told_now blocks bytes taken))
+    → outline mapping.stretches ≡ outline seen.memory.stretches
+    → Breaks (made_of (read_in held) held) held told (record seen { memory = mapping }) (record told { input = told_now })
+took_none seen held told told_now mapping bytes same is_effect taken lined =
+    subst (λ (h : Held). Breaks (made_of (read_in held) held) held told (record h { memory = mapping }) (record told { input = told_now })) (sym same)
+    (subst (λ e. Breaks (made_of e held) held told (record held { memory = mapping }) (record told { input = told_now })) (sym is_effect)
+    (breaks_taken held told told_now mapping bytes taken (lined ∙ ap (λ (h : Held). outline h.memory.stretches) same)))
 
 -- the table of calls by its tests
 abbrev call_by : (reads writes exits : Bool) → Held → Effect
@@ -375,7 +384,7 @@ call_by reads writes exits held =
 
 -- the effect of a call
 abbrev pub effect_at : Held → Effect
-effect_at held = effect_of held.has_note Ecall held.pc held.registers (memory_of held.blocks)
+effect_at held = effect_of (is_some held.note) Ecall held.pc held.registers (memory_of held.memory)
 
 module _ (held : Held) (number : ℕ) (is_number : number ≡ register_of held.registers 17) where
   call_is : (reads writes exits : Bool) → eqb (register_of held.registers 17) 63 ≡ reads → eqb (register_of held.registers 17) 64 ≡ writes
@@ -405,6 +414,6 @@ module _ (held : Held) (number : ℕ) (is_number : number ≡ register_of held.r
   is_none_such no_read no_write no_exit = call_is false false false (call_fails 63 no_read) (call_fails 64 no_write) (call_fails 93 no_exit)
 
 -- what was done by an effect was done by the call that has it
-pub acts_as : (held now : Held) (told told_now : Told) (effect other : Effect) (result : Result (Result (Option Item) Ending) MachineFault) → effect ≡ other
+pub acts_as : (held now : Held) (told told_now : Told) (effect other : Effect) (result : Result Acted MachineFault) → effect ≡ other
     → Acts (made_of effect held) held told result now told_now → Acts (made_of other held) held told result now told_now
 acts_as held now told told_now effect other result same acts = subst (λ e. Acts (made_of e held) held told result now told_now) same acts

@@ -17,7 +17,7 @@ front_of_itself bytes = ([], sym (append-nil bytes))
 front_of_more : (bytes more : List ℕ) → IsFrontOf bytes (bytes ++ more)
 front_of_more bytes more = (more, refl)
 
-front_of_front : (one two three : List ℕ) → IsFrontOf one two → IsFrontOf two three → IsFrontOf one three
+pub front_of_front : (one two three : List ℕ) → IsFrontOf one two → IsFrontOf two three → IsFrontOf one three
 front_of_front one two three f g = (f.0 ++ g.0, g.1 ∙ ap (λ xs. xs ++ g.0) f.1 ∙ append_assoc one f.0 g.0)
 
 pub nothing_given : (s : State) → HasGiven s s

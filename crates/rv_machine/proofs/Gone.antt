@@ -7,18 +7,19 @@ use Rattle.std.specs.Result.{IsErr, OnErr}
 use Rattle.ae_nums.specs.declared.item.Item.{Item}
 use Rattle.ae_ports.specs.declared.failed.Failed.{Failed}
 use Rattle.rv_code.specs.declared.ending.Ending.{Ending}
+use Rattle.rv_memory.specs.Outline.{outline}
 use Rattle.rv_machine.specs.declared.outcome.Outcome.{Outcome}
 use Rattle.rv_machine.specs.declared.outcome.Outcome.TheVariants.{Ended, Spent}
 use Rattle.rv_machine.specs.declared.outcome.MachineFault.{MachineFault}
 use Rattle.rv_machine.specs.State.{State}
 use Rattle.rv_machine.specs.Step.{Program, StepOutcome, Went, EndedWith, step_of}
 use Rattle.rv_machine.specs.Run.{Run, not_begun, first_step, run, items_with, items_from}
-use Rattle.rv_machine.specs.Laws.{IsFrontOf, HasGiven}
+use Rattle.rv_machine.specs.Laws.{HasGiven}
 use Rattle.rv_machine.specs.Held.{Held, Outside, fresh, program_in, state_of}
 use Rattle.rv_machine.specs.Ports.{Told, Passed, HasPassed}
 use Rattle.rv_machine.specs.Outcomes.{Reaches, TookFront, RunComesTo, Runs}
-use Rattle.rv_machine.specs.Advance.{Stays, Follows, GivenBefore, WentOn, Stops, Breaks, TurnedOn, TurnedOff, BreaksOff, Turns, state_after, items_in_outcome}
-use Rattle.rv_machine.proofs.Given.{nothing_given, outputs_only_grow}
+use Rattle.rv_machine.specs.Inner.Advance.{Stays, Follows, GivenBefore, WentOn, Stops, Breaks, TurnedOn, TurnedOff, BreaksOff, Turns, state_after, items_in_outcome}
+use Rattle.rv_machine.proofs.Given.{nothing_given, outputs_only_grow, front_of_front}
 use Rattle.rv_machine.proofs.Passing.{nothing, nothing_passed, nothing_follows, both, passed_both, follows_both, given_whole, given_both, appends_front}
 use Rattle.rv_machine.proofs.Runs.{run-zero, run-suc, items-zero, items-suc}
 
@@ -73,7 +74,12 @@ ended_but outcome before now told told_now ending items took stops front =
       step = λ outside tells.
           subst (λ o. GivenBefore outside nothing (state_after (state_of before outside) o) × TookFront took (items_in_outcome o)) (sym (stops.step outside))
           (given_whole outside outside nothing (state_of before outside) (nothing_follows outside) refl refl refl, front);
-      stays = record { program = ap program_in stops.same; kept = ap (λ (h : Held). h.kept) stops.same };
+      stays = record {
+        program = ap program_in stops.same;
+        note = ap (λ (h : Held). h.note) stops.same;
+        outline = ap (λ (h : Held). outline h.memory.stretches) stops.same;
+        kept = ap (λ (h : Held). h.kept) stops.same;
+      };
     }
 
 pub fails : (outcome : Outside → StepOutcome) (before now : Held) (told told_now : Told) (took : List Item → Type 0) (result : Result (Option Ending) MachineFault)
@@ -123,7 +129,7 @@ begun took held told fuel none =
                 ∙ ap (λ count. later 0 (run (program_in held) count (state_of held outside))) all;
             items = ap (λ count. items_from (program_in held) count (state_of held outside)) all;
           };
-      stays = record { program = refl; kept = refl };
+      stays = record { program = refl; note = refl; outline = refl; kept = refl };
     }
 
 -- the step that comes next, in the run that is left
@@ -144,7 +150,7 @@ later-first_step made s o t items rest is =
     ap (λ p. later made (first_step s p rest)) is ∙ (λ i. record { last = r.last; ending = r.ending; steps = more i })
 
 stays_both : (one two three : Held) → Stays one two → Stays two three → Stays one three
-stays_both one two three f g = record { program = g.program ∙ f.program; kept = g.kept ∙ f.kept }
+stays_both one two three f g = record { program = g.program ∙ f.program; note = g.note ∙ f.note; outline = g.outline ∙ f.outline; kept = g.kept ∙ f.kept }
 
 pub went_on : (before now next : Held) (told told_now told_next : Told) (fuel made : ℕ) (took took_step took_both : List Item → Type 0)
     → ((first second : List Item) → took first → took_step second → took_both (first ++ second))
@@ -241,9 +247,6 @@ items_front (EndedWith ending items) rest = ([], sym (append-nil items))
 front_behind : (so_far step all after : List Item) (count : ℕ) → count ≤ length step → all ≡ so_far ++ (step ++ after) → take (length so_far + count) all ≡ so_far ++ take count step
 front_behind so_far step all after count within is =
     ap (λ xs. take (length so_far + count) xs) is ∙ take-append-add so_far (step ++ after) count ∙ ap (λ xs. so_far ++ xs) (take-append-le count step after within)
-
-front_of_front : (one two three : List ℕ) → IsFrontOf one two → IsFrontOf two three → IsFrontOf one three
-front_of_front one two three f g = (f.0 ++ g.0, g.1 ∙ ap (λ xs. xs ++ g.0) f.1 ∙ append_assoc one f.0 g.0)
 
 pub broke : (before now next : Held) (told told_now told_next : Told) (fuel made : ℕ) (took took_step took_both : List Item → Type 0) (result : Result Outcome MachineFault)
     → ((first second : List Item) → took first → took_step second → took_both (first ++ second)) → IsErr result

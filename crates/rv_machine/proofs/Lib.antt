@@ -1,16 +1,14 @@
-pub mod Runs
-pub mod Cells
-pub mod Mapped
-pub mod Given
-pub mod Ranges
-pub mod Once
-pub mod Begun
-pub mod Passing
-pub mod Acts
-pub mod BufferBytes
-pub mod Sent
-pub mod Received
-pub mod Called
-pub mod Advanced
-pub mod Gone
-pub mod TwoRegions
+mod Runs
+mod Mapped
+mod Given
+mod Ranges
+mod Begun
+mod Passing
+mod Acts
+mod TracerBytes
+mod Sent
+mod Received
+mod Called
+mod Advanced
+mod Gone
+mod TwoRegions

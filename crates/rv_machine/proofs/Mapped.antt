@@ -1,12 +1,13 @@
 -- What a step leaves mapped.
-use Rattle.std.proofs.Common.{◌≡◌, ℕ, Bool, List, [], ◌∷◌, map, Option, None, Some, refl, ap, ◌∙◌}
+use Rattle.std.proofs.Common.{◌≡◌, ℕ, Option, None, Some, refl}
 use Rattle.rv_code.specs.Table.{meaning_of}
-use Rattle.rv_memory.specs.Memory.{Cell, with_byte, written}
+use Rattle.rv_memory.specs.Memory.{permission_at}
+use Rattle.rv_memory.proofs.LawsOfCells.{permission_at-written}
 use Rattle.rv_machine.specs.State.{State}
 use Rattle.rv_machine.specs.Effect.{Effect, Passes, Sets, Stores, Jumps, Gives, Takes, Ends, Out, Err, Events}
 use Rattle.rv_machine.specs.Calls.{effect_of}
-use Rattle.rv_machine.specs.Step.{Program, StepOutcome, Went, EndedWith, settled, after_fetch, carried_out, fetched, step_of, AfterStep}
-use Rattle.rv_machine.specs.Laws.{mapped, KeepsMapped}
+use Rattle.rv_machine.specs.Step.{Program, program_of, StepOutcome, Went, EndedWith, settled, after_fetch, carried_out, fetched, step_of, AfterStep}
+use Rattle.rv_machine.specs.Laws.{KeepsTracers, KeepsRegions}
 
 -- what holds after an effect holds after the step that has it
 pub after_effect : (P : State → Type 0) (pc : ℕ) (o : StepOutcome) → AfterStep o P → AfterStep (after_fetch pc o) P
@@ -22,26 +23,30 @@ after_step P program s h = go (fetched program s)
     go None = tt
     go (Some word) = after_effect P s.pc (settled s (effect_of program.has_note (meaning_of word) s.pc s.registers s.memory)) (h word)
 
-mapped-with_byte : (address byte : ℕ) (memory : List Cell) → mapped (map (with_byte address byte) memory) ≡ mapped memory
-mapped-with_byte address byte [] = refl
-mapped-with_byte address byte (cell ∷ memory) = ap (λ (cells : List (ℕ × Bool)). (cell.address, cell.writable) ∷ cells) (mapped-with_byte address byte memory)
+-- what is mapped after a step, and whether it is writable
+abbrev SamePermissions : State → State → Type 0
+SamePermissions s next = (address : ℕ) → permission_at next.memory address ≡ permission_at s.memory address
 
-pub mapped-written : (memory : List Cell) (addresses bytes : List ℕ) → mapped (written memory addresses bytes) ≡ mapped memory
-mapped-written memory [] bytes = refl
-mapped-written memory (address ∷ addresses) [] = refl
-mapped-written memory (address ∷ addresses) (byte ∷ bytes) =
-    mapped-written (map (with_byte address byte) memory) addresses bytes ∙ mapped-with_byte address byte memory
-
-settled_keeps : (s : State) (effect : Effect) → AfterStep (settled s effect) (λ next. mapped next.memory ≡ mapped s.memory)
-settled_keeps s Passes = refl
-settled_keeps s (Sets register value access) = refl
-settled_keeps s (Stores addresses bytes access) = mapped-written s.memory addresses bytes
-settled_keeps s (Jumps link target) = refl
-settled_keeps s (Gives Out bytes) = refl
-settled_keeps s (Gives Err bytes) = refl
-settled_keeps s (Gives Events bytes) = refl
-settled_keeps s (Takes addresses) = mapped-written s.memory addresses _
+settled_keeps : (s : State) (effect : Effect) → AfterStep (settled s effect) (SamePermissions s)
+settled_keeps s Passes = λ address. refl
+settled_keeps s (Sets register value access) = λ address. refl
+settled_keeps s (Stores addresses bytes access) = λ address. permission_at-written s.memory addresses bytes address
+settled_keeps s (Jumps link target) = λ address. refl
+settled_keeps s (Gives Out bytes) = λ address. refl
+settled_keeps s (Gives Err bytes) = λ address. refl
+settled_keeps s (Gives Events bytes) = λ address. refl
+settled_keeps s (Takes addresses) = λ address. permission_at-written s.memory addresses _ address
 settled_keeps s (Ends ending) = tt
 
-pub step_keeps_mapped : KeepsMapped
-step_keeps_mapped program s = after_step (λ next. mapped next.memory ≡ mapped s.memory) program s (λ word. settled_keeps s (effect_of program.has_note (meaning_of word) s.pc s.registers s.memory))
+step_keeps : (program : Program) (s : State) → AfterStep (step_of program s) (SamePermissions s)
+step_keeps program s = after_step (SamePermissions s) program s (λ word. settled_keeps s (effect_of program.has_note (meaning_of word) s.pc s.registers s.memory))
+
+weaker_after : (P Q : State → Type 0) (o : StepOutcome) → ((next : State) → P next → Q next) → AfterStep o P → AfterStep o Q
+weaker_after P Q (Went next items) f h = f next h
+weaker_after P Q (EndedWith ending items) f h = tt
+
+pub tracers_stay : KeepsTracers
+tracers_stay program s = weaker_after (SamePermissions s) _ (step_of program s) (λ next same. λ address above. same address) (step_keeps program s)
+
+pub regions_stay : KeepsRegions
+regions_stay image s = weaker_after (SamePermissions s) _ (step_of (program_of image) s) (λ next same. λ address mapped. same address) (step_keeps (program_of image) s)

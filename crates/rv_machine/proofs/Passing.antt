@@ -7,7 +7,7 @@ use Rattle.rv_machine.specs.Laws.{IsFrontOf}
 use Rattle.rv_machine.specs.State.{State}
 use Rattle.rv_machine.specs.Held.{Outside}
 use Rattle.rv_machine.specs.Ports.{Told, Passed, HasPassed, Passes}
-use Rattle.rv_machine.specs.Advance.{Follows, GivenBefore}
+use Rattle.rv_machine.specs.Inner.Advance.{Follows, GivenBefore}
 
 abbrev pub nothing : Passed
 nothing = record { taken = []; out = []; err = []; events = [] }
@@ -42,11 +42,11 @@ both first second =
       events = first.events ++ second.events;
     }
 
-prepend-both : (first second : List ℕ) (known : Option (List ℕ)) → prepend_known first (prepend_known second known) ≡ prepend_known (first ++ second) known
+pub prepend-both : (first second : List ℕ) (known : Option (List ℕ)) → prepend_known first (prepend_known second known) ≡ prepend_known (first ++ second) known
 prepend-both first second None = refl
 prepend-both first second (Some bytes) = ap Some (sym (append_assoc first second bytes))
 
-append-both : (known : Option (List ℕ)) (first second : List ℕ) → append_known (append_known known first) second ≡ append_known known (first ++ second)
+pub append-both : (known : Option (List ℕ)) (first second : List ℕ) → append_known (append_known known first) second ≡ append_known known (first ++ second)
 append-both None first second = refl
 append-both (Some bytes) first second = ap Some (append_assoc bytes first second)
 

@@ -18,7 +18,7 @@ use Rattle.rv_machine.specs.Calls.{call_read, call_write, call_exit, bad_descrip
 use Rattle.rv_machine.specs.Step.{settled, AfterStep}
 use Rattle.rv_machine.specs.Laws.{IsCell, IsState, KeepsRanges}
 use Rattle.rv_machine.proofs.Mapped.{after_step}
-use Rattle.rv_machine.proofs.Once.{rise-written}
+use Rattle.rv_memory.proofs.LawsOfCells.{rise-written}
 
 -- the numbers that an effect puts into a state are in their ranges
 abbrev IsEffect : Effect → Type 0

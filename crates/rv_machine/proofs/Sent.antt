@@ -1,5 +1,5 @@
 -- Bytes of memory that go to a sink piece by piece.
-use Rattle.std.proofs.Common.{◌≡◌, ℕ, ◌+◌, ◌-◌, ◌^◌, ◌<◌, ◌≤◌, List, [], ◌∷◌, ◌++◌, length, take, drop, Bool, false, not, Option, None, Some, Result, Ok, Err, OnOk, OnErr, refl, sym, ap, ◌∙◌, subst, arith, append_assoc}
+use Rattle.std.proofs.Common.{◌≡◌, ℕ, ◌+◌, ◌-◌, ◌^◌, ◌<◌, ◌≤◌, List, [], ◌∷◌, ◌++◌, length, take, drop, Bool, false, not, Option, None, Some, Result, Ok, Err, OnOk, OnErr, refl, sym, ap, ◌∙◌, subst, arith}
 use Rattle.std.specs.Io.KnownBytes.{append_known}
 use Rattle.std.proofs.Math.Seq.{take-add, take-length}
 use Rattle.std.proofs.lemmas.List.{take_all, take-take, length-take-le, append-nil}
@@ -7,11 +7,8 @@ use Rattle.ae_ports.specs.Content.{Appends, AppendsFront}
 use Rattle.ae_ports.specs.declared.failed.Failed.{Failed}
 use Rattle.rv_code.specs.Numbers.{wrap}
 use Rattle.rv_memory.specs.Memory.{Cell, is_mapped, span, bytes_at, first_hole}
-use Rattle.rv_machine.proofs.BufferBytes.{bytes_among, bytes_at-take, length-bytes_at, none_behind, found_here}
-
-append_known-append : (known : Option (List ℕ)) (first second : List ℕ) → append_known (append_known known first) second ≡ append_known known (first ++ second)
-append_known-append None first second = refl
-append_known-append (Some bytes) first second = ap Some (append_assoc bytes first second)
+use Rattle.rv_machine.proofs.Passing.{append-both}
+use Rattle.rv_memory.proofs.LawsOfCells.{bytes_among, bytes_at-take, length-bytes_at, none_behind, found_here}
 
 -- a piece behind those that were sent
 pub appends_piece : (before mid now : Option (List ℕ)) (all piece : List ℕ) (done count : ℕ) → Appends before mid (take done all)
@@ -19,7 +16,7 @@ pub appends_piece : (before mid now : Option (List ℕ)) (all piece : List ℕ) 
 appends_piece before mid now all piece done count first is second =
     second
     ∙ (ap (λ (known : Option (List ℕ)). append_known known piece) first
-    ∙ (append_known-append before (take done all) piece
+    ∙ (append-both before (take done all) piece
     ∙ ap (λ (xs : List ℕ). append_known before xs) (ap (λ (xs : List ℕ). take done all ++ xs) is ∙ sym (take-add done count all))))
 
 -- a front of a piece behind those that were sent

@@ -7,16 +7,16 @@ use Rattle.rv_code.specs.Addresses.{tracer_start}
 use Rattle.rv_code.specs.Numbers.{bytes_of}
 use Rattle.rv_memory.specs.Memory.{Cell, span, bytes_at}
 use Rattle.rv_machine.specs.Run.{run_of}
-use Rattle.rv_memory.specs.Blocks.{Block, blocks_of}
+use Rattle.rv_memory.specs.Stretches.{MappedStretch, stretches_of}
 
--- what memory now holds where a block was
-abbrev pub dumped_block : List Cell → Block → List ℕ
-dumped_block memory block =
-    bytes_of 4 block.start ++ bytes_of 4 (length block.bytes) ++ bytes_at memory (span block.start (length block.bytes))
+-- what memory now holds where a stretch was
+abbrev pub dumped_stretch : List Cell → MappedStretch → List ℕ
+dumped_stretch memory stretch =
+    bytes_of 4 stretch.start ++ bytes_of 4 (length stretch.bytes) ++ bytes_at memory (span stretch.start (length stretch.bytes))
 
-abbrev pub dumped : List Block → List Cell → List ℕ
-dumped blocks memory = flat_map (dumped_block memory) (filter (λ (block : Block). nat_lt block.start tracer_start) blocks)
+abbrev pub dumped : List MappedStretch → List Cell → List ℕ
+dumped stretches memory = flat_map (dumped_stretch memory) (filter (λ (stretch : MappedStretch). nat_lt stretch.start tracer_start) stretches)
 
 -- the dump after the run of an image on an input, at most so many steps
 abbrev pub dump_of : Image → List ℕ → ℕ → List ℕ
-dump_of image input count = dumped (blocks_of image.regions) (run_of image input count).last.memory
+dump_of image input count = dumped (stretches_of image.regions) (run_of image input count).last.memory

@@ -13,8 +13,8 @@ use Rattle.rv_machine.specs.State.{State}
 use Rattle.rv_machine.specs.Run.{Run, run_of}
 
 -- the 16 bytes of an event file's header: `AEV1`, and what the original is known by
-abbrev pub header_of : Note → List ℕ
-header_of note = 0x41 ∷ 0x45 ∷ 0x56 ∷ 0x31 ∷ bytes_of 4 note.entry ++ bytes_of 4 note.first ++ bytes_of 4 note.count
+abbrev pub event_header_of : Note → List ℕ
+event_header_of note = 0x41 ∷ 0x45 ∷ 0x56 ∷ 0x31 ∷ bytes_of 4 note.entry ++ bytes_of 4 note.first ++ bytes_of 4 note.count
 
 abbrev pub is_mapped_as_whole : List Cell → List ℕ → Bool
 is_mapped_as_whole memory addresses = is_none (first_hole memory addresses)
@@ -60,7 +60,7 @@ end_of_run note s (Some ending) = end_record (end_address note.map s.pc ending) 
 
 abbrev pub events_by : Option Note → Run → List ℕ
 events_by None r = []
-events_by (Some note) r = header_of note ++ r.last.events ++ drained note r.last.memory ++ end_of_run note r.last r.ending
+events_by (Some note) r = event_header_of note ++ r.last.events ++ drained note r.last.memory ++ end_of_run note r.last r.ending
 
 -- the event bytes of the run of an image on an input, at most so many steps
 abbrev pub event_bytes_of : Image → List ℕ → ℕ → List ℕ

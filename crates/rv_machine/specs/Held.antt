@@ -1,23 +1,24 @@
 -- What a machine holds, and what it and the outside have to do with the state of a run.
-use Rattle.std.specs.Prelude.{ℕ, Bool, List, [], Option, None, Result, is_some}
+use Rattle.std.specs.Prelude.{ℕ, List, [], Option, None, Result, is_some}
 use Rattle.rv_code.specs.declared.ending.Ending.{Ending}
 use Rattle.rv_code.specs.declared.image.Image.{Image}
+use Rattle.rv_code.specs.declared.image.Note.{Note}
 use Rattle.rv_code.specs.declared.extent.Extent.{Extent}
 use Rattle.rv_code.specs.Code.{extents_of}
-use Rattle.rv_memory.specs.Blocks.{Block, memory_of, blocks_of}
+use Rattle.rv_memory.specs.Stretches.{Mapping, memory_of, mapping_of}
 use Rattle.rv_machine.specs.declared.outcome.MachineFault.{MachineFault}
 use Rattle.rv_machine.specs.State.{State}
 use Rattle.rv_machine.specs.Step.{Program}
 use Rattle.rv_machine.specs.Start.{first_registers}
 
--- a machine: where its code stands, and of the state all but what the outside has
+-- a machine: where its code stands, its note, and of the state all but what the outside has
 pub record Held : Type 0 where
   pub code : List Extent
-  pub has_note : Bool
+  pub note : Option Note
   pub pc : ℕ
   pub registers : List ℕ
-  -- the mapped bytes
-  pub blocks : List Block
+  -- what is mapped
+  pub memory : Mapping
   -- the ending or the fault that each later call answers, none while the machine can go on
   pub kept : Option (Result Ending MachineFault)
 
@@ -36,7 +37,7 @@ abbrev pub outside_of : State → Outside
 outside_of s = record { input = s.input; out = s.out; err = s.err; events = s.events }
 
 abbrev pub program_in : Held → Program
-program_in held = record { code = held.code; has_note = held.has_note }
+program_in held = record { code = held.code; has_note = is_some held.note }
 
 -- the state of a machine and the outside together
 abbrev pub state_of : Held → Outside → State
@@ -44,7 +45,7 @@ state_of held outside =
     record {
       pc = held.pc;
       registers = held.registers;
-      memory = memory_of held.blocks;
+      memory = memory_of held.memory;
       input = outside.input;
       out = outside.out;
       err = outside.err;
@@ -56,9 +57,9 @@ abbrev pub loaded_of : Image → Held
 loaded_of image =
     record {
       code = extents_of image.code;
-      has_note = is_some image.note;
+      note = image.note;
       pc = image.entry;
       registers = first_registers;
-      blocks = blocks_of image.regions;
+      memory = mapping_of image.regions;
       kept = None;
     }

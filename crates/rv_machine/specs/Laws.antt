@@ -1,14 +1,15 @@
 -- Laws of steps and runs, in the words that the working calls' contracts use.
-use Rattle.std.specs.Prelude.{◌≡◌, ◌≢◌, ℕ, suc, ◌+◌, ◌≤◌, ⊤, Bool, List, [], ◌∷◌, ◌++◌, length, map, Option, None, Some, slice_index}
+use Rattle.std.specs.Prelude.{◌≡◌, ℕ, ◌+◌, ◌≤◌, List, ◌++◌, length, IsTrue, Option, None, Some, slice_index}
 use Rattle.std.specs.List.{AllByRecursion}
 use Rattle.ae_nums.specs.declared.item.Item.{Item}
 use Rattle.rv_code.specs.declared.ending.Ending.{Ending}
 use Rattle.rv_code.specs.declared.image.Image.{Image}
-use Rattle.rv_code.specs.Image.{IsImage}
 use Rattle.rv_code.specs.Numbers.{IsByte, IsWord}
-use Rattle.rv_memory.specs.Memory.{Cell, cell_at, written}
+use Rattle.rv_code.specs.Addresses.{tracer_start}
+use Rattle.rv_memory.specs.Memory.{Cell, Rise, is_mapped, permission_at}
+use Rattle.rv_memory.specs.Stretches.{memory_of, mapping_of}
 use Rattle.rv_machine.specs.State.{State}
-use Rattle.rv_machine.specs.Step.{Program, AfterStep, step_of}
+use Rattle.rv_machine.specs.Step.{Program, program_of, AfterStep, step_of}
 use Rattle.rv_machine.specs.Run.{Run, run, items_from}
 use Rattle.rv_machine.specs.Start.{start_of}
 
@@ -34,25 +35,21 @@ ItemsJoin =
     → items_from program (m + n) s
     ≡ items_joined (run program m s).ending (items_from program m s) (items_from program n (run program m s).last)
 
--- bytes put at addresses change no cell of another address
-abbrev pub KeepsOtherCells : Type 0
-KeepsOtherCells =
-    (memory : List Cell) (addresses bytes : List ℕ) (other : ℕ)
-    → AllByRecursion (λ address. address ≢ other) addresses
-    → cell_at (written memory addresses bytes) other ≡ cell_at memory other
+-- A step maps and unmaps nothing at or above c0000000, and changes nowhere there whether a byte is writable.
+abbrev pub KeepsTracers : Type 0
+KeepsTracers =
+    (program : Program) (s : State)
+    → AfterStep (step_of program s) (λ next. (address : ℕ) → tracer_start ≤ address → permission_at next.memory address ≡ permission_at s.memory address)
 
--- which addresses are mapped, and which of them are writable
-abbrev pub mapped : List Cell → List (ℕ × Bool)
-mapped memory = map (λ (cell : Cell). (cell.address, cell.writable)) memory
+-- the address of a byte of the image's regions or of the stack
+abbrev pub IsOfImage : Image → ℕ → Type 0
+IsOfImage image address = IsTrue (is_mapped (memory_of (mapping_of image.regions)) address)
 
--- a step maps and unmaps nothing
-abbrev pub KeepsMapped : Type 0
-KeepsMapped = (program : Program) (s : State) → AfterStep (step_of program s) (λ next. mapped next.memory ≡ mapped s.memory)
-
--- cells from this address on, each behind the one before: so no address has two
-abbrev pub Rise : ℕ → List Cell → Type 0
-Rise low [] = ⊤
-Rise low (cell ∷ cells) = (low ≤ cell.address) × Rise (suc cell.address) cells
+-- Nor does it where the image's regions and the stack are.
+abbrev pub KeepsRegions : Type 0
+KeepsRegions =
+    (image : Image) (s : State)
+    → AfterStep (step_of (program_of image) s) (λ next. (address : ℕ) → IsOfImage image address → permission_at next.memory address ≡ permission_at s.memory address)
 
 -- a cell of a byte within the address space
 pub record IsCell (cell : Cell) : Type 0 where
@@ -72,9 +69,9 @@ pub record IsState (s : State) : Type 0 where
   pub err : AllByRecursion IsByte s.err
   pub events : AllByRecursion IsByte s.events
 
--- so it is at the start, whatever the image and the input
-abbrev pub BeginsInRanges : Type 0
-BeginsInRanges = (image : Image) (input : List ℕ) → IsImage image → AllByRecursion IsByte input → IsState (start_of image input)
+-- so it is at the start of an image's run, whatever the input
+abbrev pub BeginsInRanges : Image → Type 0
+BeginsInRanges image = (input : List ℕ) → AllByRecursion IsByte input → IsState (start_of image input)
 
 -- a step keeps it so, and x0 at 0
 abbrev pub KeepsRanges : Type 0

@@ -10,5 +10,6 @@ pub mod Clean
 pub mod Held
 pub mod Ports
 pub mod Outcomes
-pub mod Advance
+pub mod Promises
 pub mod Laws
+pub mod Inner

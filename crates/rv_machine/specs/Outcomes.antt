@@ -1,18 +1,19 @@
 -- What the calls of a machine answer, and what they leave, by the step and the run of the state that it holds. All of it
 -- is said where the input tells its bytes.
-use Rattle.std.specs.Prelude.{◌≡◌, ℕ, ◌≤◌, List, ◌++◌, length, take, Option, None, Some, Result, Ok, Err}
+use Rattle.std.specs.Prelude.{◌≡◌, ℕ, ◌≤◌, List, [], ◌∷◌, ◌++◌, length, take, if◌then◌else◌, Option, None, Some, Result, Ok, Err}
 use Rattle.std.specs.Option.{option_map, option_to_list}
 use Rattle.ae_nums.specs.declared.item.Item.{Item}
 use Rattle.ae_nums.specs.declared.item.Item.TheVariants.{Fetch}
 use Rattle.ae_ports.specs.Content.{Consumes, Appends, AppendsFront}
 use Rattle.rv_code.specs.declared.ending.Ending.{Ending}
+use Rattle.rv_code.specs.Code.{is_code}
 use Rattle.rv_machine.specs.declared.outcome.MachineFault.{MachineFault}
 use Rattle.rv_machine.specs.declared.outcome.Outcome.{Outcome}
 use Rattle.rv_machine.specs.declared.outcome.Outcome.TheVariants.{Ended, Spent}
 use Rattle.rv_machine.specs.declared.seen.Seen.{Seen}
 use Rattle.rv_machine.specs.declared.seen.Step.{Step}
 use Rattle.rv_machine.specs.State.{State}
-use Rattle.rv_machine.specs.Step.{StepOutcome, Went, EndedWith, step_of}
+use Rattle.rv_machine.specs.Step.{Program, StepOutcome, Went, EndedWith, step_of}
 use Rattle.rv_machine.specs.Run.{Run, run, items_from}
 use Rattle.rv_machine.specs.Held.{Held, fresh, outside_of, program_in, state_of}
 use Rattle.rv_machine.specs.Ports.{Told}
@@ -25,10 +26,28 @@ items_in seen = option_to_list (option_map Fetch seen.fetch) ++ option_to_list s
 abbrev pub nothing_seen : Seen
 nothing_seen = record { fetch = None; access = None }
 
--- what a step answers of what came of it, `next` being the state that it went to
-abbrev pub outcome_in : Step → (next : State) → StepOutcome
-outcome_in (Step.Went seen) next = Went next (items_in seen)
-outcome_in (Step.Ended ending seen) next = EndedWith ending (items_in seen)
+-- the address of a step's fetch: the pc, where a code word stands there
+abbrev pub fetch_of : Program → State → Option ℕ
+fetch_of program s = if is_code program.code s.pc then Some s.pc else None
+
+-- the access that comes behind the fetch among the items of a step
+abbrev pub access_behind : List Item → Option Item
+access_behind [] = None
+access_behind (fetch ∷ []) = None
+access_behind (fetch ∷ access ∷ items) = Some access
+
+-- the access of a step; one that ends the run has none
+abbrev pub access_of : StepOutcome → Option Item
+access_of (Went next items) = access_behind items
+access_of (EndedWith ending items) = None
+
+-- what a step shows of itself
+abbrev pub seen_of : Program → State → Seen
+seen_of program s = record { fetch = fetch_of program s; access = access_of (step_of program s) }
+
+abbrev pub seen_in : Step → Seen
+seen_in (Step.Went seen) = seen
+seen_in (Step.Ended ending seen) = seen
 
 -- how a run stands, as an outcome
 abbrev pub outcome_of : Option Ending → Outcome
@@ -104,12 +123,3 @@ RunComesTo r items before took (Err fault) held now = FailsBefore r.last before 
 abbrev pub Runs : (input : List ℕ) → (count : ℕ) → (before : Held) → Told → (took : List Item → Type 0) → Result Outcome MachineFault → (now : Held) → Told → Type 0
 Runs input count before told took result now told_now =
     RunComesTo (run_in before input count) (items_in_run before input count) told took result now told_now
-
--- A call of a machine that keeps an answer: it gives that, and the machine and the four objects are the same.
-pub record IsIdle (again same one two three four : Type 0) : Type 0 where
-  pub answer : again
-  pub machine : same
-  pub first : one
-  pub second : two
-  pub third : three
-  pub fourth : four

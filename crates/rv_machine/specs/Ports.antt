@@ -20,6 +20,13 @@ pub record Counts : Type 0 where
   pub events : ℕ
   pub items : ℕ
 
+-- these of the objects, in this order
+abbrev pub tells : (input out err events : Option (List ℕ)) → Told
+tells input out err events = record { input = input; out = out; err = err; events = events }
+
+abbrev pub counts : (input out err events items : ℕ) → Counts
+counts input out err events items = record { input = input; out = out; err = err; events = events; items = items }
+
 -- a count of faults has risen, and not fallen
 pub record Rises (before now : ℕ) : Type 0 where
   pub later : before ≤ now

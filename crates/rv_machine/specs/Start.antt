@@ -2,7 +2,7 @@
 -- the image's regions and the stack.
 use Rattle.std.specs.Prelude.{ℕ, List, [], replicate, slice_set}
 use Rattle.rv_code.specs.declared.image.Image.{Image}
-use Rattle.rv_memory.specs.Blocks.{blocks_of, memory_of}
+use Rattle.rv_memory.specs.Stretches.{mapping_of, memory_of}
 use Rattle.rv_machine.specs.State.{State}
 
 unfoldable pub first_registers : List ℕ
@@ -13,7 +13,7 @@ start_of image input =
     record {
       pc = image.entry;
       registers = first_registers;
-      memory = memory_of (blocks_of image.regions);
+      memory = memory_of (mapping_of image.regions);
       input = input;
       out = [];
       err = [];

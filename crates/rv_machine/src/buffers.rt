@@ -4,21 +4,20 @@ ghost use Rattle.std.specs.List.{list_all};
 ghost use Rattle.ae_ports.specs.Content.{Appends, AppendsFront, Consumes};
 ghost use Rattle.ae_ports.specs.Fault.{HasCause};
 ghost use Rattle.rv_code.specs.Addresses.{tracer_start};
-ghost use Rattle.rv_memory.specs.Blocks.{memory_of};
+ghost use Rattle.rv_memory.specs.Stretches.{memory_of};
+ghost use Rattle.rv_memory.specs.Outline.{outline};
 ghost use Rattle.rv_memory.specs.Memory.{span, bytes_at, first_hole, first_shut};
-ghost use Rattle.rv_machine.specs.Advance.{Receives};
+ghost use Rattle.rv_machine.specs.Inner.Advance.{Receives};
 
 use ae_ports::{Failed, Sink, Source, write_all};
+use rv_code::TRACER_START;
 use rv_memory::Memory;
-
-/// The first address of what belongs to the tracer.
-const TRACER_START: u32 = 0xc000_0000;
 
 /// The bytes of the input that are taken at a time, at most.
 const PIECE: usize = 4096;
 
 /// Whether all bytes of the buffer are mapped. Each region is looked up once.
-pub fn is_mapped(memory: &Memory, address: u32, count: u32) -> bool
+pub(crate) fn is_mapped(memory: &Memory, address: u32, count: u32) -> bool
     ensures { result ≡ is_none (first_hole (memory_of memory.now) (span address count)) }
 {
     let mut here = address;
@@ -38,7 +37,7 @@ pub fn is_mapped(memory: &Memory, address: u32, count: u32) -> bool
 }
 
 /// Whether all bytes of the buffer can be written. Each region is looked up once.
-pub fn is_writable(memory: &Memory, address: u32, count: u32) -> bool
+pub(crate) fn is_writable(memory: &Memory, address: u32, count: u32) -> bool
     ensures { result ≡ is_none (first_shut (memory_of memory.now) (span address count)) }
 {
     let mut here = address;
@@ -58,14 +57,19 @@ pub fn is_writable(memory: &Memory, address: u32, count: u32) -> bool
 }
 
 /// Whether all bytes of the buffer belong to the tracer.
-pub fn is_tracers(address: u32, count: u32) -> bool
+pub(crate) fn is_tracers(address: u32, count: u32) -> bool
     ensures { result ≡ list_all (λ byte. nat_le tracer_start byte) (span address count) }
 {
     count == 0 || (address >= TRACER_START && count - 1 <= u32::MAX - address)
 }
 
 /// Gives a sink the bytes of a buffer.
-pub fn send<K: Sink>(memory: &Memory, address: u32, count: u32, sink: &mut K) -> Result<(), Failed>
+pub(crate) fn send<K: Sink>(
+    memory: &Memory,
+    address: u32,
+    count: u32,
+    sink: &mut K,
+) -> Result<(), Failed>
     requires { first_hole (memory_of memory.now) (span address count) ≡ None }
     ensures all { OnOk result (Appends (K.told sink.old) (K.told sink.new) (bytes_at (memory_of memory.now) (span address count))) }
     ensures front { OnErr result (AppendsFront (K.told sink.old) (K.told sink.new) (bytes_at (memory_of memory.now) (span address count))) }
@@ -87,7 +91,7 @@ pub fn send<K: Sink>(memory: &Memory, address: u32, count: u32, sink: &mut K) ->
 }
 
 /// Takes bytes of the input into a buffer, and answers how many: as many as it has room for, or all that are left.
-pub fn receive<I: Source>(
+pub(crate) fn receive<I: Source>(
     memory: &mut Memory,
     address: u32,
     count: u32,
@@ -95,6 +99,7 @@ pub fn receive<I: Source>(
 ) -> Result<u32, Failed>
     requires { first_shut (memory_of memory.old) (span address count) ≡ None }
     ensures received { IfOk result (λ got. Receives (I.told input.old) (I.told input.new) (memory_of memory.old) (memory_of memory.new) address count got) }
+    ensures outline { outline memory.new.stretches ≡ outline memory.old.stretches }
     ensures taken { OnErr result ((bytes : List ℕ) × Consumes (I.told input.old) (I.told input.new) bytes) }
     ensures cause { HasCause (I.faults input.old) (I.faults input.new) result }
     ensures rest { I.same_rest input.old input.new }

@@ -6,7 +6,7 @@ use rv_code::Extent;
 
 /// Whether a code word stands at the address. `near` is the place of the extent where the last one was found, which is
 /// tested first.
-pub fn finds_code(code: &[Extent], near: &mut usize, address: u32) -> bool
+pub(crate) fn finds_code(code: &[Extent], near: &mut usize, address: u32) -> bool
     ensures { result ≡ is_code code.now address }
 {
     if *near < code.len() && code[*near].has_word(address) {

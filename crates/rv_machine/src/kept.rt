@@ -1,14 +1,14 @@
 //! What a machine answers, and what it keeps and answers again.
 ghost use Rattle.std.specs.Prelude.{◌≡◌};
-ghost use Rattle.rv_machine.specs.Advance.{step_with};
+ghost use Rattle.rv_machine.specs.Inner.Advance.{step_with};
 ghost use Rattle.rv_machine.specs.Outcomes.{run_again, kept_by_step, kept_by_run};
 
+use crate::acted::Acted;
 use crate::{MachineFault, Outcome, Seen, Step};
-use ae_nums::Item;
 use rv_code::Ending;
 
 /// What a machine keeps, as an answer of a run.
-pub fn as_outcome(kept: Result<Ending, MachineFault>) -> Result<Outcome, MachineFault>
+pub(crate) fn as_outcome(kept: Result<Ending, MachineFault>) -> Result<Outcome, MachineFault>
     ensures { result ≡ run_again kept }
 {
     match kept {
@@ -18,7 +18,9 @@ pub fn as_outcome(kept: Result<Ending, MachineFault>) -> Result<Outcome, Machine
 }
 
 /// What a machine keeps after a step.
-pub fn kept_by_step(answer: Result<Step, MachineFault>) -> Option<Result<Ending, MachineFault>>
+pub(crate) fn kept_by_step(
+    answer: Result<Step, MachineFault>,
+) -> Option<Result<Ending, MachineFault>>
     ensures { result ≡ kept_by_step answer }
 {
     match answer {
@@ -29,7 +31,9 @@ pub fn kept_by_step(answer: Result<Step, MachineFault>) -> Option<Result<Ending,
 }
 
 /// What a machine keeps after a run.
-pub fn kept_by_run(answer: Result<Outcome, MachineFault>) -> Option<Result<Ending, MachineFault>>
+pub(crate) fn kept_by_run(
+    answer: Result<Outcome, MachineFault>,
+) -> Option<Result<Ending, MachineFault>>
     ensures { result ≡ kept_by_run answer }
 {
     match answer {
@@ -40,16 +44,13 @@ pub fn kept_by_run(answer: Result<Outcome, MachineFault>) -> Option<Result<Endin
 }
 
 /// What a step answers that fetched at this pc, and whose instruction did this.
-pub fn step_with(
-    pc: u32,
-    acted: Result<Result<Option<Item>, Ending>, MachineFault>,
-) -> Result<Step, MachineFault>
+pub(crate) fn step_with(pc: u32, acted: Result<Acted, MachineFault>) -> Result<Step, MachineFault>
     ensures { result ≡ step_with pc acted }
 {
     let fetch = Some(pc);
     match acted {
-        Ok(Ok(access)) => Ok(Step::Went(Seen { fetch, access })),
-        Ok(Err(ending)) => Ok(Step::Ended(
+        Ok(Acted::Went(access)) => Ok(Step::Went(Seen { fetch, access })),
+        Ok(Acted::Ended(ending)) => Ok(Step::Ended(
             ending,
             Seen {
                 fetch,

@@ -1,5 +1,8 @@
-//! Laws of steps and runs. Each is a function that does nothing, and its contract is the law.
-ghost use Rattle.rv_machine.specs.Laws.{RunsJoin, ItemsJoin, KeepsOtherCells, KeepsMapped, BeginsInRanges, KeepsRanges, OutputsGrow};
+//! Laws of steps and runs. Each is the contract of a function that does nothing, or that looks at an image, whose type keeps
+//! what the law rests on.
+ghost use Rattle.rv_machine.specs.Laws.{RunsJoin, ItemsJoin, KeepsTracers, KeepsRegions, BeginsInRanges, KeepsRanges, OutputsGrow};
+
+use rv_code::Image;
 
 /// A run of m + n steps is a run of m steps and then, from its last state on, of n.
 pub fn runs_join()
@@ -11,20 +14,24 @@ pub fn items_join()
     ensures { ItemsJoin }
 {}
 
-/// Bytes put at addresses change no cell of another address.
-pub fn others_stay()
-    ensures { KeepsOtherCells }
+/// A step maps and unmaps nothing at or above c0000000, where the tracer's own lies, and changes nowhere there whether a
+/// byte is writable.
+pub fn tracers_stay()
+    ensures { KeepsTracers }
 {}
 
-/// A step maps and unmaps nothing, and changes nowhere whether a byte is writable.
-pub fn mapped_stays()
-    ensures { KeepsMapped }
+/// A step neither unmaps a byte of the image's regions or of the stack nor changes whether it is writable.
+pub fn regions_stay()
+    ensures { KeepsRegions }
 {}
 
-/// At the start registers and the pc are below 2^32, bytes below 256, x0 is 0, and no address has two bytes.
-pub fn ranges_begin()
-    ensures { BeginsInRanges }
-{}
+/// At the start of a run of the image, registers and the pc are below 2^32, bytes below 256, x0 is 0, and no address has two
+/// bytes.
+pub fn ranges_begin(image: &Image)
+    ensures { BeginsInRanges image.now }
+{
+    let _ = &image.entry;
+}
 
 /// A step keeps registers and the pc below 2^32, bytes below 256, x0 at 0, and no address with two bytes.
 pub fn ranges_stay()

@@ -4,9 +4,9 @@
 //! event bytes, dumps, and clean and good runs. [`laws`] has what holds of all runs.
 #![tactic(auto)]
 
+mod acted;
 mod buffers;
 mod code;
-mod dropped;
 mod kept;
 pub mod laws;
 mod loading;
@@ -14,11 +14,8 @@ mod machine;
 mod outcome;
 mod seen;
 mod taking;
-#[cfg(test)]
-mod tests;
 mod untraced;
 
-pub use dropped::Dropped;
 pub use machine::Machine;
 pub use outcome::{MachineFault, Outcome};
 pub use seen::{Seen, Step};

@@ -1,16 +1,16 @@
-//! What a machine takes from an image beside its memory: where its code stands, and the registers at the start.
+//! What a machine takes from an image beside its memory: where its code stands, its note, and the registers at the start.
 ghost use Rattle.std.specs.Prelude.{◌≡◌, ◌^◌, ◌<◌, length, IfOk, All};
 ghost use Rattle.rv_code.specs.Code.{extents_of};
 ghost use Rattle.rv_machine.specs.Start.{first_registers};
 
-use rv_code::{Extent, Range};
+use rv_code::{Extent, ListOf, Note, Range};
 use std::alloc::{AllocError, Global};
 
 /// Near the end of the stack, a multiple of 16.
 const FIRST_STACK_POINTER: u32 = 0x7fff_ffc0;
 
 /// Where the words of the ranges stand.
-pub fn code_extents(alloc: Global, ranges: &[Range]) -> Result<Vec<Extent>, AllocError>
+pub(crate) fn code_extents(alloc: Global, ranges: &[Range]) -> Result<Vec<Extent>, AllocError>
     requires { All (λ range. length range.words < 2 ^ 32) ranges.now }
     ensures { IfOk result (λ extents. extents.items ≡ extents_of ranges.now) }
 {
@@ -24,9 +24,36 @@ pub fn code_extents(alloc: Global, ranges: &[Range]) -> Result<Vec<Extent>, Allo
     Ok(extents)
 }
 
+/// The same note, if there is one.
+pub(crate) fn note_like(alloc: Global, note: &Option<Note>) -> Result<Option<Note>, AllocError>
+    ensures { IfOk result (λ same. same ≡ note.now) }
+{
+    match note {
+        Some(note) => Ok(Some(copy_of(alloc, note)?)),
+        None => Ok(None),
+    }
+}
+
+/// The same note, with a list of its own.
+fn copy_of(alloc: Global, note: &Note) -> Result<Note, AllocError>
+    ensures { IfOk result (λ same. same ≡ note.now) }
+{
+    let marks = note.map.as_slice();
+    let mut map = Vec::with_capacity(alloc, marks.len())?;
+    map.extend_from_slice(marks)?;
+    Ok(Note {
+        entry: note.entry,
+        first: note.first,
+        count: note.count,
+        buffer: note.buffer,
+        used: note.used,
+        map: ListOf::from_vec(map),
+    })
+}
+
 /// The registers before the first step.
 #[tactic(auto, unfolding(crate::specs::Start::first_registers))]
-pub fn start_registers() -> [u32; 32]
+pub(crate) fn start_registers() -> [u32; 32]
     ensures { result ≡ first_registers }
 {
     let mut registers = [0; 32];

@@ -1,34 +1,32 @@
-ghost use Rattle.std.specs.Prelude.{◌≡◌, ℕ, ◌+◌, ◌<◌, ⊤, List, Option, None, Some, Result, IfOk, false};
+ghost use Rattle.std.specs.Prelude.{◌≡◌, ℕ, ◌+◌, ◌<◌, ⊤, List, Option, None, Some, Result, Ok, IfOk, false};
 ghost use Rattle.ae_nums.specs.declared.item.Item.{Item};
-ghost use Rattle.rv_code.specs.Image.{IsImage};
 ghost use Rattle.rv_code.specs.Numbers.{wrap};
 ghost use Rattle.rv_code.specs.declared.ending.Ending.{Ending};
+ghost use Rattle.rv_memory.specs.Outline.{outline};
 ghost use Rattle.rv_machine.specs.declared.outcome.MachineFault.{MachineFault};
-ghost use Rattle.rv_machine.specs.Advance.{Advances, Stays, Turns};
+ghost use Rattle.rv_machine.specs.Inner.Advance.{Advances, Stays, Turns};
 ghost use Rattle.rv_machine.specs.Held.{Held, Outside, program_in, state_of, loaded_of};
-ghost use Rattle.rv_machine.specs.Outcomes.{IsIdle, Steps, Runs, step_again, run_again, kept_by_step, kept_by_run};
-ghost use Rattle.rv_machine.specs.Ports.{Told, Counts, HasCauses, Passes};
+ghost use Rattle.rv_machine.specs.Outcomes.{seen_in, seen_of, Steps, Runs, step_again, run_again, kept_by_step, kept_by_run};
+ghost use Rattle.rv_machine.specs.Ports.{HasCauses, Passes, tells, counts};
+ghost use Rattle.rv_machine.specs.Promises.{AnswersStep, AnswersRun, ForEach};
 ghost use Rattle.rv_machine.specs.State.{register_of, with_register};
 ghost use Rattle.rv_machine.specs.Step.{fetched, step_of};
 
 use crate::code::finds_code;
-use crate::dropped::Dropped;
 use crate::kept::{as_outcome, kept_by_run, kept_by_step, step_with};
-use crate::loading::{code_extents, start_registers};
+use crate::loading::{code_extents, note_like, start_registers};
 use crate::taking::give_items;
 use crate::untraced::Untraced;
 use crate::{MachineFault, Outcome, Seen, Step};
 use ae_nums::Taker;
-use ae_ports::{Failed, Sink, Source};
-use rv_code::{Ending, Extent, Image, decode};
+use ae_ports::{Dropped, Failed, Sink, Source};
+use rv_code::{Ending, Extent, Image, Note, decode};
 use rv_memory::Memory;
 use std::alloc::{AllocError, Global};
 use std::marker::Model;
 
 mod acting;
 mod calling;
-#[cfg(test)]
-mod tests;
 
 /// A machine that runs one image, step by step.
 #[derive(Debug, Drop)]
@@ -39,7 +37,8 @@ pub struct Machine {
     near_code: usize,
     /// The number of the region that the last fetch was in.
     near_region: usize,
-    has_note: bool,
+    /// What a rewritten executable says of itself.
+    note: Option<Note>,
     pc: u32,
     registers: [u32; 32],
     memory: Memory,
@@ -56,10 +55,10 @@ impl Model for Machine {
     ghost view = { λ m.
         record {
           code = m.code.items;
-          has_note = m.has_note;
+          note = m.note;
           pc = m.pc;
           registers = m.registers;
-          blocks = m.memory;
+          memory = m.memory;
           kept = m.kept;
         } };
 
@@ -69,16 +68,16 @@ impl Model for Machine {
 impl Machine {
     /// A machine before the first step of the image. The only error is want of memory.
     pub fn load(alloc: Global, image: &Image) -> Result<Machine, AllocError>
-        requires { IsImage image.now }
         ensures { IfOk result (λ machine. machine ≡ loaded_of image.now) }
     {
         let memory = Memory::load(alloc, image)?;
         let code = code_extents(alloc, image.code.as_slice())?;
+        let note = note_like(alloc, &image.note)?;
         Ok(Machine {
             code,
             near_code: 0,
             near_region: 0,
-            has_note: image.note.is_some(),
+            note,
             pc: image.entry,
             registers: start_registers(),
             memory,
@@ -140,8 +139,13 @@ impl Machine {
         err: &mut P,
         events: &mut Q,
     ) -> Result<Step, MachineFault>
-        ensures advances { Advances (λ outside. step_of (program_in self.old) (state_of self.old outside)) self.old (record { input = I.told input.old; out = O.told out.old; err = P.told err.old; events = Q.told events.old }) result self.new (record { input = I.told input.new; out = O.told out.new; err = P.told err.new; events = Q.told events.new }) }
-        ensures cause { HasCauses result (record { input = I.faults input.old; out = O.faults out.old; err = P.faults err.old; events = Q.faults events.old; items = 0 }) (record { input = I.faults input.new; out = O.faults out.new; err = P.faults err.new; events = Q.faults events.new; items = 0 }) }
+        ensures advances { let told = tells (I.told input.old) (O.told out.old) (P.told err.old) (Q.told events.old) in
+            let told_now = tells (I.told input.new) (O.told out.new) (P.told err.new) (Q.told events.new) in
+            Advances (λ outside. step_of (program_in self.old) (state_of self.old outside)) self.old told result self.new told_now }
+        ensures shows { (outside : Outside) → IfOk result (λ step. seen_in step ≡ seen_of (program_in self.old) (state_of self.old outside)) }
+        ensures cause { let faults = counts (I.faults input.old) (O.faults out.old) (P.faults err.old) (Q.faults events.old) 0 in
+            let faults_now = counts (I.faults input.new) (O.faults out.new) (P.faults err.new) (Q.faults events.new) 0 in
+            HasCauses result faults faults_now }
         ensures input { I.same_rest input.old input.new }
         ensures out { O.same_rest out.old out.new }
         ensures err { P.same_rest err.old err.new }
@@ -169,9 +173,15 @@ impl Machine {
         events: &mut Q,
         items: &mut K,
     ) -> Result<Option<Ending>, MachineFault>
-        ensures passes { Passes (record { input = I.told input.old; out = O.told out.old; err = P.told err.old; events = Q.told events.old }) (record { input = I.told input.new; out = O.told out.new; err = P.told err.new; events = Q.told events.new }) }
-        ensures turns { Turns (λ outside. step_of (program_in self.old) (state_of self.old outside)) self.old (record { input = I.told input.old; out = O.told out.old; err = P.told err.old; events = Q.told events.old }) (K.took items.old items.new) result self.new (record { input = I.told input.new; out = O.told out.new; err = P.told err.new; events = Q.told events.new }) }
-        ensures cause { HasCauses result (record { input = I.faults input.old; out = O.faults out.old; err = P.faults err.old; events = Q.faults events.old; items = K.faults items.old }) (record { input = I.faults input.new; out = O.faults out.new; err = P.faults err.new; events = Q.faults events.new; items = K.faults items.new }) }
+        ensures passes { let told = tells (I.told input.old) (O.told out.old) (P.told err.old) (Q.told events.old) in
+            let told_now = tells (I.told input.new) (O.told out.new) (P.told err.new) (Q.told events.new) in
+            Passes told told_now }
+        ensures turns { let told = tells (I.told input.old) (O.told out.old) (P.told err.old) (Q.told events.old) in
+            let told_now = tells (I.told input.new) (O.told out.new) (P.told err.new) (Q.told events.new) in
+            Turns (λ outside. step_of (program_in self.old) (state_of self.old outside)) self.old told (K.took items.old items.new) result self.new told_now }
+        ensures cause { let faults = counts (I.faults input.old) (O.faults out.old) (P.faults err.old) (Q.faults events.old) (K.faults items.old) in
+            let faults_now = counts (I.faults input.new) (O.faults out.new) (P.faults err.new) (Q.faults events.new) (K.faults items.new) in
+            HasCauses result faults faults_now }
         ensures input { I.same_rest input.old input.new }
         ensures out { O.same_rest out.old out.new }
         ensures err { P.same_rest err.old err.new }
@@ -200,11 +210,17 @@ impl Machine {
         events: &mut Q,
         items: &mut K,
     ) -> Result<Outcome, MachineFault>
-        ensures passes { Passes (record { input = I.told input.old; out = O.told out.old; err = P.told err.old; events = Q.told events.old }) (record { input = I.told input.new; out = O.told out.new; err = P.told err.new; events = Q.told events.new }) }
-        ensures runs { (bytes : List ℕ) → I.told input.old ≡ Some bytes → Runs bytes fuel self.old (record { input = I.told input.old; out = O.told out.old; err = P.told err.old; events = Q.told events.old }) (K.took items.old items.new) result self.new (record { input = I.told input.new; out = O.told out.new; err = P.told err.new; events = Q.told events.new }) }
+        ensures passes { let told = tells (I.told input.old) (O.told out.old) (P.told err.old) (Q.told events.old) in
+            let told_now = tells (I.told input.new) (O.told out.new) (P.told err.new) (Q.told events.new) in
+            Passes told told_now }
+        ensures runs { let told = tells (I.told input.old) (O.told out.old) (P.told err.old) (Q.told events.old) in
+            let told_now = tells (I.told input.new) (O.told out.new) (P.told err.new) (Q.told events.new) in
+            (bytes : List ℕ) → I.told input.old ≡ Some bytes → Runs bytes fuel self.old told (K.took items.old items.new) result self.new told_now }
         ensures took { IfOk result (λ _. (taken : List Item) × K.took items.old items.new taken) }
         ensures stays { Stays self.old self.new }
-        ensures cause { HasCauses result (record { input = I.faults input.old; out = O.faults out.old; err = P.faults err.old; events = Q.faults events.old; items = K.faults items.old }) (record { input = I.faults input.new; out = O.faults out.new; err = P.faults err.new; events = Q.faults events.new; items = K.faults items.new }) }
+        ensures cause { let faults = counts (I.faults input.old) (O.faults out.old) (P.faults err.old) (Q.faults events.old) (K.faults items.old) in
+            let faults_now = counts (I.faults input.new) (O.faults out.new) (P.faults err.new) (Q.faults events.new) (K.faults items.new) in
+            HasCauses result faults faults_now }
         ensures input { I.same_rest input.old input.new }
         ensures out { O.same_rest out.old out.new }
         ensures err { P.same_rest err.old err.new }
@@ -230,16 +246,15 @@ impl Machine {
         err: &mut P,
         events: &mut Q,
     ) -> Result<Step, MachineFault>
-        ensures step { self.old.kept ≡ None → (bytes : List ℕ) → I.told input.old ≡ Some bytes → Steps bytes self.old (record { input = I.told input.old; out = O.told out.old; err = P.told err.old; events = Q.told events.old }) result self.new (record { input = I.told input.new; out = O.told out.new; err = P.told err.new; events = Q.told events.new }) }
-        ensures again { (answer : Result Ending MachineFault) → self.old.kept ≡ Some answer → IsIdle (result ≡ step_again answer) (self.new ≡ self.old) (input.new ≡ input.old) (out.new ≡ out.old) (err.new ≡ err.old) (events.new ≡ events.old) }
-        ensures passes { self.old.kept ≡ None → Passes (record { input = I.told input.old; out = O.told out.old; err = P.told err.old; events = Q.told events.old }) (record { input = I.told input.new; out = O.told out.new; err = P.told err.new; events = Q.told events.new }) }
-        ensures keeps { self.old.kept ≡ None → self.new.kept ≡ kept_by_step result }
-        ensures program { program_in self.new ≡ program_in self.old }
-        ensures cause { self.old.kept ≡ None → HasCauses result (record { input = I.faults input.old; out = O.faults out.old; err = P.faults err.old; events = Q.faults events.old; items = 0 }) (record { input = I.faults input.new; out = O.faults out.new; err = P.faults err.new; events = Q.faults events.new; items = 0 }) }
-        ensures input { I.same_rest input.old input.new }
-        ensures out { O.same_rest out.old out.new }
-        ensures err { P.same_rest err.old err.new }
-        ensures events { Q.same_rest events.old events.new }
+        ensures { let told = tells (I.told input.old) (O.told out.old) (P.told err.old) (Q.told events.old) in
+            let told_now = tells (I.told input.new) (O.told out.new) (P.told err.new) (Q.told events.new) in
+            let faults = counts (I.faults input.old) (O.faults out.old) (P.faults err.old) (Q.faults events.old) 0 in
+            let faults_now = counts (I.faults input.new) (O.faults out.new) (P.faults err.new) (Q.faults events.new) 0 in
+            let same = ForEach (input.new ≡ input.old) (out.new ≡ out.old)
+            (err.new ≡ err.old) (events.new ≡ events.old) in
+            let rests = ForEach (I.same_rest input.old input.new) (O.same_rest out.old out.new)
+            (P.same_rest err.old err.new) (Q.same_rest events.old events.new) in
+            AnswersStep self.old told faults result self.new told_now faults_now same rests }
     {
         match self.kept {
             Some(Ok(ending)) => Ok(Step::Ended(
@@ -260,7 +275,9 @@ impl Machine {
 
     /// Takes at most `fuel` steps, and answers how the run then stands.
     ///
-    /// After an ending, and after a fault, each later call gives the same answer, calls no port and changes nothing.
+    /// `Spent` says that so many steps were made and none ended: with no fuel at once, by a machine that can go on. After an
+    /// ending, and after a fault, each later call gives that same answer, whatever the fuel and also where there is none, calls
+    /// no port and changes nothing.
     pub fn run<I: Source, O: Sink, P: Sink, Q: Sink>(
         &mut self,
         fuel: u64,
@@ -269,16 +286,15 @@ impl Machine {
         err: &mut P,
         events: &mut Q,
     ) -> Result<Outcome, MachineFault>
-        ensures run { self.old.kept ≡ None → (bytes : List ℕ) → I.told input.old ≡ Some bytes → Runs bytes fuel self.old (record { input = I.told input.old; out = O.told out.old; err = P.told err.old; events = Q.told events.old }) (λ _. ⊤) result self.new (record { input = I.told input.new; out = O.told out.new; err = P.told err.new; events = Q.told events.new }) }
-        ensures again { (answer : Result Ending MachineFault) → self.old.kept ≡ Some answer → IsIdle (result ≡ run_again answer) (self.new ≡ self.old) (input.new ≡ input.old) (out.new ≡ out.old) (err.new ≡ err.old) (events.new ≡ events.old) }
-        ensures passes { self.old.kept ≡ None → Passes (record { input = I.told input.old; out = O.told out.old; err = P.told err.old; events = Q.told events.old }) (record { input = I.told input.new; out = O.told out.new; err = P.told err.new; events = Q.told events.new }) }
-        ensures keeps { self.old.kept ≡ None → self.new.kept ≡ kept_by_run result }
-        ensures program { program_in self.new ≡ program_in self.old }
-        ensures cause { self.old.kept ≡ None → HasCauses result (record { input = I.faults input.old; out = O.faults out.old; err = P.faults err.old; events = Q.faults events.old; items = 0 }) (record { input = I.faults input.new; out = O.faults out.new; err = P.faults err.new; events = Q.faults events.new; items = 0 }) }
-        ensures input { I.same_rest input.old input.new }
-        ensures out { O.same_rest out.old out.new }
-        ensures err { P.same_rest err.old err.new }
-        ensures events { Q.same_rest events.old events.new }
+        ensures { let told = tells (I.told input.old) (O.told out.old) (P.told err.old) (Q.told events.old) in
+            let told_now = tells (I.told input.new) (O.told out.new) (P.told err.new) (Q.told events.new) in
+            let faults = counts (I.faults input.old) (O.faults out.old) (P.faults err.old) (Q.faults events.old) 0 in
+            let faults_now = counts (I.faults input.new) (O.faults out.new) (P.faults err.new) (Q.faults events.new) 0 in
+            let same = ForEach (input.new ≡ input.old) (out.new ≡ out.old)
+            (err.new ≡ err.old) (events.new ≡ events.old) in
+            let rests = ForEach (I.same_rest input.old input.new) (O.same_rest out.old out.new)
+            (P.same_rest err.old err.new) (Q.same_rest events.old events.new) in
+            AnswersRun fuel self.old told faults (λ _. ⊤) result self.new told_now faults_now same rests }
     {
         match self.kept {
             Some(answer) => as_outcome(answer),
@@ -300,18 +316,16 @@ impl Machine {
         err: &mut P,
         items: &mut K,
     ) -> Result<Outcome, MachineFault>
-        requires no_note { self.old.has_note ≡ false }
-        ensures run { self.old.kept ≡ None → (bytes : List ℕ) → I.told input.old ≡ Some bytes → Runs bytes fuel self.old (record { input = I.told input.old; out = O.told out.old; err = P.told err.old; events = None }) (K.took items.old items.new) result self.new (record { input = I.told input.new; out = O.told out.new; err = P.told err.new; events = None }) }
-        ensures again { (answer : Result Ending MachineFault) → self.old.kept ≡ Some answer → IsIdle (result ≡ run_again answer) (self.new ≡ self.old) (input.new ≡ input.old) (out.new ≡ out.old) (err.new ≡ err.old) (items.new ≡ items.old) }
-        ensures passes { self.old.kept ≡ None → Passes (record { input = I.told input.old; out = O.told out.old; err = P.told err.old; events = None }) (record { input = I.told input.new; out = O.told out.new; err = P.told err.new; events = None }) }
-        ensures took { self.old.kept ≡ None → IfOk result (λ _. (taken : List Item) × K.took items.old items.new taken) }
-        ensures keeps { self.old.kept ≡ None → self.new.kept ≡ kept_by_run result }
-        ensures program { program_in self.new ≡ program_in self.old }
-        ensures cause { self.old.kept ≡ None → HasCauses result (record { input = I.faults input.old; out = O.faults out.old; err = P.faults err.old; events = 0; items = K.faults items.old }) (record { input = I.faults input.new; out = O.faults out.new; err = P.faults err.new; events = 0; items = K.faults items.new }) }
-        ensures input { I.same_rest input.old input.new }
-        ensures out { O.same_rest out.old out.new }
-        ensures err { P.same_rest err.old err.new }
-        ensures items { K.same_rest items.old items.new }
+        requires no_note { self.old.note ≡ None }
+        ensures { let told = tells (I.told input.old) (O.told out.old) (P.told err.old) None in
+            let told_now = tells (I.told input.new) (O.told out.new) (P.told err.new) None in
+            let faults = counts (I.faults input.old) (O.faults out.old) (P.faults err.old) 0 (K.faults items.old) in
+            let faults_now = counts (I.faults input.new) (O.faults out.new) (P.faults err.new) 0 (K.faults items.new) in
+            let same = ForEach (input.new ≡ input.old) (out.new ≡ out.old)
+            (err.new ≡ err.old) (items.new ≡ items.old) in
+            let rests = ForEach (I.same_rest input.old input.new) (O.same_rest out.old out.new)
+            (P.same_rest err.old err.new) (K.same_rest items.old items.new) in
+            AnswersRun fuel self.old told faults (K.took items.old items.new) result self.new told_now faults_now same rests }
     {
         match self.kept {
             Some(answer) => as_outcome(answer),

@@ -44,7 +44,7 @@ fn take_seen<K: Taker>(items: &mut K, seen: Seen) -> Result<(), Failed>
 }
 
 /// The same, with a failure as the machine's fault.
-pub fn give_items<K: Taker>(items: &mut K, seen: Seen) -> Result<(), MachineFault>
+pub(crate) fn give_items<K: Taker>(items: &mut K, seen: Seen) -> Result<(), MachineFault>
     ensures all { OnOk result (K.took items.old items.new (items_in seen)) }
     ensures front { OnErr result (TookFront (K.took items.old items.new) (items_in seen)) }
     ensures same { OnOk result (K.faults items.new ≡ K.faults items.old) }

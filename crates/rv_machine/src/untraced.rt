@@ -5,7 +5,7 @@ use ae_ports::Failed;
 
 /// A taker that drops each item. It never fails, and tells nothing.
 #[derive(Drop)]
-pub struct Untraced;
+pub(crate) struct Untraced;
 
 impl Taker for Untraced {
     ghost took = { λ _ _ _. ⊤ };

@@ -2,11 +2,12 @@
 ghost use Rattle.std.specs.Prelude.{◌≡◌, ◌⊎◌, ℕ, ◌+◌, ◌^◌, ◌<◌, List};
 ghost use Rattle.rv_code.specs.Numbers.{wrap, unsigned, sign_extended, number_of};
 ghost use Rattle.rv_code.specs.Parts.{HasRegisters};
-ghost use Rattle.rv_machine.specs.Advance.{CarriesOut, Acts, made_of, made_by};
+ghost use Rattle.rv_machine.specs.Inner.Advance.{ActsAlone, Acts, made_of, made_by};
 ghost use Rattle.rv_machine.specs.Effect.{load_size, loaded, store_size, jump_to};
-ghost use Rattle.rv_machine.specs.Ports.{Told, Counts, HasCauses};
+ghost use Rattle.rv_machine.specs.Ports.{HasCauses, tells, counts};
 ghost use Rattle.rv_machine.specs.State.{register_of};
 
+use crate::acted::Acted;
 use crate::{Machine, MachineFault};
 use ae_nums::Item;
 use ae_ports::{Sink, Source};
@@ -15,18 +16,22 @@ use rv_code::{
 };
 
 impl Machine {
-    /// Carries out an instruction. It answers the access that it made, or the ending that it comes to.
-    pub fn act<I: Source, O: Sink, P: Sink, Q: Sink>(
+    /// Carries out an instruction, and answers what came of it. A fault is that of the port which a call used.
+    pub(super) fn act<I: Source, O: Sink, P: Sink, Q: Sink>(
         &mut self,
         instr: Instr,
         input: &mut I,
         out: &mut O,
         err: &mut P,
         events: &mut Q,
-    ) -> Result<Result<Option<Item>, Ending>, MachineFault>
+    ) -> Result<Acted, MachineFault>
         requires { HasRegisters instr }
-        ensures acts { Acts (made_by instr self.old) self.old (record { input = I.told input.old; out = O.told out.old; err = P.told err.old; events = Q.told events.old }) result self.new (record { input = I.told input.new; out = O.told out.new; err = P.told err.new; events = Q.told events.new }) }
-        ensures cause { HasCauses result (record { input = I.faults input.old; out = O.faults out.old; err = P.faults err.old; events = Q.faults events.old; items = 0 }) (record { input = I.faults input.new; out = O.faults out.new; err = P.faults err.new; events = Q.faults events.new; items = 0 }) }
+        ensures acts { let told = tells (I.told input.old) (O.told out.old) (P.told err.old) (Q.told events.old) in
+            let told_now = tells (I.told input.new) (O.told out.new) (P.told err.new) (Q.told events.new) in
+            Acts (made_by instr self.old) self.old told result self.new told_now }
+        ensures cause { let faults = counts (I.faults input.old) (O.faults out.old) (P.faults err.old) (Q.faults events.old) 0 in
+            let faults_now = counts (I.faults input.new) (O.faults out.new) (P.faults err.new) (Q.faults events.new) 0 in
+            HasCauses result faults faults_now }
         ensures input { I.same_rest input.old input.new }
         ensures out { O.same_rest out.old out.new }
         ensures err { P.same_rest err.old err.new }
@@ -44,37 +49,37 @@ impl Machine {
             Instr::Auipc { rd, imm } => Ok(self.auipc(rd, imm)),
             Instr::Fence(word) => Ok(self.fence(word)),
             Instr::Ecall => self.call(input, out, err, events),
-            Instr::Ebreak => Ok(Err(Ending::Breakpoint)),
-            Instr::Bad(word) => Ok(Err(Ending::Illegal(word))),
+            Instr::Ebreak => Ok(Acted::Ended(Ending::Breakpoint)),
+            Instr::Bad(word) => Ok(Acted::Ended(Ending::Illegal(word))),
         }
     }
 
     /// Jumps to a target with the next word's address in a register. Where the target is no multiple of 4 the run ends.
-    fn jump(&mut self, link: u8, target: u32) -> Result<Option<Item>, Ending>
+    fn jump(&mut self, link: u8, target: u32) -> Acted
         requires { link < 32 }
-        ensures { CarriesOut (made_of (jump_to link target) self.old) self.old result self.new }
+        ensures { ActsAlone (made_of (jump_to link target) self.old) self.old result self.new }
     {
         if target % 4 != 0 {
-            return Err(Ending::JumpMisaligned(target));
+            return Acted::Ended(Ending::JumpMisaligned(target));
         }
         self.set(link, self.pc.wrapping_add(4));
         self.pc = target;
-        Ok(None)
+        Acted::Went(None)
     }
 
     /// `jal`.
-    fn jal(&mut self, rd: u8, imm: i32) -> Result<Option<Item>, Ending>
+    fn jal(&mut self, rd: u8, imm: i32) -> Acted
         requires { rd < 32 }
-        ensures { CarriesOut (made_by (Instr.Jal rd imm) self.old) self.old result self.new }
+        ensures { ActsAlone (made_by (Instr.Jal rd imm) self.old) self.old result self.new }
     {
         self.jump(rd, self.pc.wrapping_add(imm.cast_unsigned()))
     }
 
     /// `jalr`: the target is read before the link is written.
-    fn jalr(&mut self, rd: u8, rs1: u8, imm: i32) -> Result<Option<Item>, Ending>
+    fn jalr(&mut self, rd: u8, rs1: u8, imm: i32) -> Acted
         requires result { rd < 32 }
         requires base { rs1 < 32 }
-        ensures { CarriesOut (made_by (Instr.Jalr rd rs1 imm) self.old) self.old result self.new }
+        ensures { ActsAlone (made_by (Instr.Jalr rd rs1 imm) self.old) self.old result self.new }
     {
         self.jump(rd, self.sum(rs1, imm) / 2 * 2)
     }
@@ -88,40 +93,40 @@ impl Machine {
     }
 
     /// A branch.
-    fn branch(&mut self, op: BranchOp, rs1: u8, rs2: u8, imm: i32) -> Result<Option<Item>, Ending>
+    fn branch(&mut self, op: BranchOp, rs1: u8, rs2: u8, imm: i32) -> Acted
         requires first { rs1 < 32 }
         requires second { rs2 < 32 }
-        ensures { CarriesOut (made_by (Instr.Branch op rs1 rs2 imm) self.old) self.old result self.new }
+        ensures { ActsAlone (made_by (Instr.Branch op rs1 rs2 imm) self.old) self.old result self.new }
     {
         if is_taken(op, self.register(rs1), self.register(rs2)) {
             return self.jump(0, self.pc.wrapping_add(imm.cast_unsigned()));
         }
         self.go_on();
-        Ok(None)
+        Acted::Went(None)
     }
 
     /// A load.
-    fn load_from(&mut self, op: LoadOp, rd: u8, rs1: u8, imm: i32) -> Result<Option<Item>, Ending>
+    fn load_from(&mut self, op: LoadOp, rd: u8, rs1: u8, imm: i32) -> Acted
         requires result { rd < 32 }
         requires base { rs1 < 32 }
-        ensures { CarriesOut (made_by (Instr.Load op rd rs1 imm) self.old) self.old result self.new }
+        ensures { ActsAlone (made_by (Instr.Load op rd rs1 imm) self.old) self.old result self.new }
     {
         let address = self.sum(rs1, imm);
         let size = size_of_load(op);
         match self.memory.read(address, size) {
             Ok(bits) => {
                 self.set_and_go_on(rd, extended(op, bits));
-                Ok(Some(Item::Read { address, size }))
+                Acted::Went(Some(Item::Read { address, size }))
             }
-            Err(hole) => Err(Ending::LoadFault(hole.address)),
+            Err(hole) => Acted::Ended(Ending::LoadFault(hole.address)),
         }
     }
 
     /// A store.
-    fn store_to(&mut self, op: StoreOp, rs1: u8, rs2: u8, imm: i32) -> Result<Option<Item>, Ending>
+    fn store_to(&mut self, op: StoreOp, rs1: u8, rs2: u8, imm: i32) -> Acted
         requires base { rs1 < 32 }
         requires value { rs2 < 32 }
-        ensures { CarriesOut (made_by (Instr.Store op rs1 rs2 imm) self.old) self.old result self.new }
+        ensures { ActsAlone (made_by (Instr.Store op rs1 rs2 imm) self.old) self.old result self.new }
     {
         let address = self.sum(rs1, imm);
         let size = size_of_store(op);
@@ -129,59 +134,59 @@ impl Machine {
         match self.memory.write(address, size, value) {
             Ok(()) => {
                 self.go_on();
-                Ok(Some(Item::Write { address, size }))
+                Acted::Went(Some(Item::Write { address, size }))
             }
-            Err(hole) => Err(Ending::StoreFault(hole.address)),
+            Err(hole) => Acted::Ended(Ending::StoreFault(hole.address)),
         }
     }
 
     /// An operation on a register and an immediate.
-    fn op_imm(&mut self, op: ImmOp, rd: u8, rs1: u8, imm: i32) -> Result<Option<Item>, Ending>
+    fn op_imm(&mut self, op: ImmOp, rd: u8, rs1: u8, imm: i32) -> Acted
         requires result { rd < 32 }
         requires operand { rs1 < 32 }
-        ensures { CarriesOut (made_by (Instr.OpImm op rd rs1 imm) self.old) self.old result self.new }
+        ensures { ActsAlone (made_by (Instr.OpImm op rd rs1 imm) self.old) self.old result self.new }
     {
         let value = op_result(on_registers(op), self.register(rs1), imm.cast_unsigned());
         self.set_and_go_on(rd, value);
-        Ok(None)
+        Acted::Went(None)
     }
 
     /// An operation on two registers.
-    fn op(&mut self, op: RegOp, rd: u8, rs1: u8, rs2: u8) -> Result<Option<Item>, Ending>
+    fn op(&mut self, op: RegOp, rd: u8, rs1: u8, rs2: u8) -> Acted
         requires result { rd < 32 }
         requires first { rs1 < 32 }
         requires second { rs2 < 32 }
-        ensures { CarriesOut (made_by (Instr.Op op rd rs1 rs2) self.old) self.old result self.new }
+        ensures { ActsAlone (made_by (Instr.Op op rd rs1 rs2) self.old) self.old result self.new }
     {
         let value = op_result(op, self.register(rs1), self.register(rs2));
         self.set_and_go_on(rd, value);
-        Ok(None)
+        Acted::Went(None)
     }
 
     /// `lui`.
-    fn lui(&mut self, rd: u8, imm: u32) -> Result<Option<Item>, Ending>
+    fn lui(&mut self, rd: u8, imm: u32) -> Acted
         requires { rd < 32 }
-        ensures { CarriesOut (made_by (Instr.Lui rd imm) self.old) self.old result self.new }
+        ensures { ActsAlone (made_by (Instr.Lui rd imm) self.old) self.old result self.new }
     {
         self.set_and_go_on(rd, imm);
-        Ok(None)
+        Acted::Went(None)
     }
 
     /// `auipc`.
-    fn auipc(&mut self, rd: u8, imm: u32) -> Result<Option<Item>, Ending>
+    fn auipc(&mut self, rd: u8, imm: u32) -> Acted
         requires { rd < 32 }
-        ensures { CarriesOut (made_by (Instr.Auipc rd imm) self.old) self.old result self.new }
+        ensures { ActsAlone (made_by (Instr.Auipc rd imm) self.old) self.old result self.new }
     {
         self.set_and_go_on(rd, self.pc.wrapping_add(imm));
-        Ok(None)
+        Acted::Went(None)
     }
 
     /// `fence`.
-    fn fence(&mut self, word: u32) -> Result<Option<Item>, Ending>
-        ensures { CarriesOut (made_by (Instr.Fence word) self.old) self.old result self.new }
+    fn fence(&mut self, word: u32) -> Acted
+        ensures { ActsAlone (made_by (Instr.Fence word) self.old) self.old result self.new }
     {
         self.go_on();
-        Ok(None)
+        Acted::Went(None)
     }
 }
 

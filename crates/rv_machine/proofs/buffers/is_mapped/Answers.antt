@@ -1,6 +1,6 @@
 use Rattle.std.proofs.Common.{is_none, length, sym, ap, ◌∙◌, arith}
-use Rattle.rv_memory.specs.Blocks.{memory_of}
-use Rattle.rv_machine.proofs.BufferBytes.{hole_past, no_hole}
+use Rattle.rv_memory.specs.Stretches.{memory_of}
+use Rattle.rv_memory.proofs.LawsOfCells.{hole_past, no_hole}
 use Rattle.rv_machine.proofs.buffers.is_mapped.Goals as goal
 
 pub returns-then-reach-left : goal.returns-then-reach-left

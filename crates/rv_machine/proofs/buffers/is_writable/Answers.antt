@@ -1,6 +1,6 @@
 use Rattle.std.proofs.Common.{is_none, sym, ap, ◌∙◌, arith}
-use Rattle.rv_memory.specs.Blocks.{memory_of}
-use Rattle.rv_machine.proofs.BufferBytes.{shut_past, none_shut}
+use Rattle.rv_memory.specs.Stretches.{memory_of}
+use Rattle.rv_memory.proofs.LawsOfCells.{shut_past, none_shut}
 use Rattle.rv_machine.proofs.buffers.is_writable.Goals as goal
 
 pub returns-then-reach-left : goal.returns-then-reach-left

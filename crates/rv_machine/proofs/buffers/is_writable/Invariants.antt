@@ -1,5 +1,5 @@
 use Rattle.std.proofs.Common.{◌≡◌, ◌^◌, ◌<◌}
-use Rattle.rv_memory.specs.Blocks.{memory_of}
+use Rattle.rv_memory.specs.Stretches.{memory_of}
 use Rattle.rv_memory.specs.Memory.{span, first_shut}
 use Rattle.rv_machine.proofs.buffers.is_writable.Given as goal
 

@@ -1,6 +1,6 @@
 use Rattle.std.proofs.Common.{◌+◌, ◌%◌, List, ℕ, refl, sym, ap, ◌∙◌, subst, arith}
 use Rattle.ae_ports.specs.Content.{Consumes}
-use Rattle.rv_memory.specs.Blocks.{memory_of}
+use Rattle.rv_memory.specs.Stretches.{memory_of}
 use Rattle.rv_memory.specs.Memory.{span, first_shut}
 use Rattle.rv_machine.proofs.Received.{none_received, still_free, more_received, received_full, filled}
 use Rattle.rv_machine.proofs.buffers.receive.Goals as goal
@@ -8,6 +8,7 @@ use Rattle.rv_machine.proofs.buffers.receive.Goals as goal
 pub loop-got-init : goal.loop-got-init
 loop-got-init g c = record {
   received = none_received (g.I.Source.told c.args.input.now) (memory_of c.args.memory.now) c.args.address c.args.count;
+  outline = refl;
   size = refl;
   same = refl;
   rest = g.met.I.Source.rest_stays _;
@@ -29,6 +30,7 @@ loop-got-preserved g c =
           more_received _ _ _ _ _ _ _ (omega arith) c.loop-got.invariant.received _ _ c.in_ok-more.more _ piece.long piece.within
           (subst (λ (xs : List ℕ). Consumes (g.I.Source.told c.loop-got.input) (g.I.Source.told c.read.new.self) xs) (sym piece.front) c.in_ok-more.ensures.content.0)
           c.put.ensures.put;
+      outline = c.put.ensures.outline ∙ c.loop-got.invariant.outline;
       size = piece.size;
       same = c.in_ok-more.ensures.cause.same ∙ c.loop-got.invariant.same;
       rest = g.met.I.Source.rest_joins _ _ _ c.loop-got.invariant.rest c.read.ensures.rest;

@@ -1,11 +1,13 @@
 use Rattle.std.proofs.Common.{◌≡◌, ◌-◌, length}
-use Rattle.rv_memory.specs.Blocks.{memory_of}
+use Rattle.rv_memory.specs.Stretches.{memory_of}
+use Rattle.rv_memory.specs.Outline.{outline}
 use Rattle.rv_machine.proofs.Received.{IsReceived}
 use Rattle.rv_machine.proofs.buffers.receive.Given as goal
 
 abbrev pub invariant-loop-got : goal.invariant-loop-got
 invariant-loop-got g l = record {
   received : IsReceived (g.I.Source.told l.fn.input) (g.I.Source.told l.input) (memory_of l.fn.memory) (memory_of l.memory) l.fn.address l.fn.count l.got;
+  outline : outline l.memory.stretches ≡ outline l.fn.memory.stretches;
   size : length l.piece ≡ 4096;
   same : g.I.Source.faults l.input ≡ g.I.Source.faults l.fn.input;
   rest : g.I.Source.same_rest l.fn.input l.input;

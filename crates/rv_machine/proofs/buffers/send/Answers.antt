@@ -1,5 +1,5 @@
 use Rattle.std.proofs.Common.{rules, refl, ◌∙◌, arith}
-use Rattle.rv_memory.specs.Blocks.{memory_of}
+use Rattle.rv_memory.specs.Stretches.{memory_of}
 use Rattle.rv_machine.proofs.Sent.{none_sent, more_sent, more_front, last_sent, last_front, all_sent, some_piece}
 use Rattle.rv_machine.proofs.buffers.send.Goals as goal
 

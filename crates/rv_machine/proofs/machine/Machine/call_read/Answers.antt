@@ -23,7 +23,7 @@ returns-in-Ok-clause-acts g c = λ out err events.
     c.self.view_is (read_here c.args.self.now c.register.result c.register.ensures true c.if-register-ne0.false
     (free_is (the_view c.self.inside) c.args.self.now c.register-address.result c.register-count.result c.is_writable.result true c.self.view_is
     c.register-address.ensures c.register-count.ensures c.is_writable.ensures c.if-not-is_writable.false))
-    c.register-address.ensures c.register-count.ensures c.in-Ok.ensures.received c.set_and_go_on-in-Ok.ensures
+    c.register-address.ensures c.register-count.ensures c.in-Ok.ensures.received c.receive.ensures.outline c.set_and_go_on-in-Ok.ensures
 
 pub returns-in-Err-clause-acts : goal.returns-in-Err-clause-acts
 returns-in-Err-clause-acts g c = λ out err events.
@@ -32,4 +32,4 @@ returns-in-Err-clause-acts g c = λ out err events.
     took_none (the_view c.self.inside) c.args.self.now told _ c.receive.new.memory failed.0
     c.self.view_is (read_here c.args.self.now c.register.result c.register.ensures true c.if-register-ne0.false
     (free_is (the_view c.self.inside) c.args.self.now c.register-address.result c.register-count.result c.is_writable.result true c.self.view_is
-    c.register-address.ensures c.register-count.ensures c.is_writable.ensures c.if-not-is_writable.false)) failed.1
+    c.register-address.ensures c.register-count.ensures c.is_writable.ensures c.if-not-is_writable.false)) failed.1 c.receive.ensures.outline

@@ -8,22 +8,23 @@ use Rattle.rv_machine.proofs.machine.Machine.call_write.Goals as goal
 pub returns-in-1-clause-acts : goal.returns-in-1-clause-acts
 returns-in-1-clause-acts g c = λ input.
     let told : Told = record { input = input; out = g.O.Sink.told c.args.out.now; err = g.P.Sink.told c.args.err.now; events = g.Q.Sink.told c.args.events.now } in
-    gave Out c.args.self.now c.give.new.self told _ c.has_mapped_buffer.result _ c.give.result OutFault c.acted.result _
-    (to_out c.args.self.now c.register.result c.register.ensures c.has_mapped_buffer.result c.in-1.is c.has_mapped_buffer.ensures) c.give.ensures.gave c.acted.ensures.ok c.acted.ensures.failed
+    gave Out c.args.self.now c.give.new.self told _ c.has_mapped_buffer.result _ c.give.result OutFault c.went_unless_failed.result _
+    (to_out c.args.self.now c.register.result c.register.ensures c.has_mapped_buffer.result c.in-1.is c.has_mapped_buffer.ensures) c.give.ensures.gave
+    c.went_unless_failed.ensures.ok c.went_unless_failed.ensures.failed
 
 pub returns-in-2-clause-acts : goal.returns-in-2-clause-acts
 returns-in-2-clause-acts g c = λ input.
     let told : Told = record { input = input; out = g.O.Sink.told c.args.out.now; err = g.P.Sink.told c.args.err.now; events = g.Q.Sink.told c.args.events.now } in
-    gave Err c.args.self.now c.give-in-2.new.self told _ c.has_mapped_buffer-in-2.result _ c.give-in-2.result ErrFault c.acted-in-2.result _
+    gave Err c.args.self.now c.give-in-2.new.self told _ c.has_mapped_buffer-in-2.result _ c.give-in-2.result ErrFault c.went_unless_failed-in-2.result _
     (to_err c.args.self.now c.register.result c.register.ensures c.has_mapped_buffer-in-2.result c.in-2.is c.has_mapped_buffer-in-2.ensures) c.give-in-2.ensures.gave
-    c.acted-in-2.ensures.ok c.acted-in-2.ensures.failed
+    c.went_unless_failed-in-2.ensures.ok c.went_unless_failed-in-2.ensures.failed
 
 pub returns-in-3-clause-acts : goal.returns-in-3-clause-acts
 returns-in-3-clause-acts g c = λ input.
     let told : Told = record { input = input; out = g.O.Sink.told c.args.out.now; err = g.P.Sink.told c.args.err.now; events = g.Q.Sink.told c.args.events.now } in
-    gave Events c.args.self.now c.give-in-3.new.self told _ c.may_give_events.result _ c.give-in-3.result EventFault c.acted-in-3.result _
+    gave Events c.args.self.now c.give-in-3.new.self told _ c.may_give_events.result _ c.give-in-3.result EventFault c.went_unless_failed-in-3.result _
     (to_events c.args.self.now c.register.result c.register.ensures c.may_give_events.result c.in-3.is c.may_give_events.ensures) c.give-in-3.ensures.gave
-    c.acted-in-3.ensures.ok c.acted-in-3.ensures.failed
+    c.went_unless_failed-in-3.ensures.ok c.went_unless_failed-in-3.ensures.failed
 
 pub returns-in_default-clause-acts : goal.returns-in_default-clause-acts
 returns-in_default-clause-acts g c = λ input.

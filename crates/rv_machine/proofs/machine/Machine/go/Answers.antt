@@ -3,7 +3,7 @@ use Rattle.ae_nums.specs.declared.item.Item.{Item}
 use Rattle.rv_machine.specs.Held.{Outside, program_in, state_of}
 use Rattle.rv_machine.specs.Ports.{Told}
 use Rattle.rv_machine.specs.Step.{StepOutcome, step_of}
-use Rattle.rv_machine.specs.Advance.{Turns}
+use Rattle.rv_machine.specs.Inner.Advance.{Turns}
 use Rattle.rv_machine.proofs.Gone.{begun, went_on, spent, ended, broke}
 use Rattle.rv_machine.proofs.Passing.{pass_on}
 use Rattle.rv_machine.proofs.machine.Machine.go.Goals as goal

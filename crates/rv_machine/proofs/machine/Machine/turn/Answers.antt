@@ -4,7 +4,7 @@ use Rattle.rv_machine.specs.Held.{Outside, program_in, state_of}
 use Rattle.rv_machine.specs.Outcomes.{items_in}
 use Rattle.rv_machine.specs.Ports.{Told}
 use Rattle.rv_machine.specs.Step.{StepOutcome, step_of}
-use Rattle.rv_machine.specs.Advance.{Advances}
+use Rattle.rv_machine.specs.Inner.Advance.{Advances}
 use Rattle.rv_machine.proofs.Advanced.{advances_pass}
 use Rattle.rv_machine.proofs.Gone.{breaks, ended_but, fails}
 use Rattle.rv_machine.proofs.machine.Machine.turn.Goals as goal

@@ -1,5 +1,5 @@
 -- What the parts of a step do, by what comes of it: `outcome` gives it at whatever the outside has.
-use Rattle.std.specs.Prelude.{◌≡◌, ℕ, ◌+◌, ◌<◌, ◌≤◌, ◌&&◌, nat_le, is_none, Bool, true, false, List, [], ◌++◌, length, Option, Some, None, Result, Ok, Err}
+use Rattle.std.specs.Prelude.{◌≡◌, ℕ, ◌+◌, ◌<◌, ◌≤◌, ◌&&◌, nat_le, is_none, is_some, Bool, true, false, List, [], ◌++◌, length, Option, Some, None, Result, Ok, Err}
 use Rattle.std.specs.List.{list_all}
 use Rattle.std.specs.Option.{option_to_list}
 use Rattle.ae_nums.specs.declared.item.Item.{Item}
@@ -8,9 +8,11 @@ use Rattle.ae_ports.specs.Content.{Consumes, Appends, AppendsFront, IsAtEnd}
 use Rattle.rv_code.specs.Addresses.{tracer_start}
 use Rattle.rv_code.specs.declared.ending.Ending.{Ending}
 use Rattle.rv_code.specs.declared.instr.Instr.{Instr}
-use Rattle.rv_memory.specs.Blocks.{memory_of}
+use Rattle.rv_memory.specs.Stretches.{memory_of}
+use Rattle.rv_memory.specs.Outline.{outline}
 use Rattle.rv_memory.specs.Memory.{Cell, span, bytes_at, first_hole, written}
 use Rattle.rv_code.specs.Numbers.{wrap}
+use Rattle.rv_machine.specs.declared.acted.Acted.{Acted}
 use Rattle.rv_machine.specs.declared.outcome.MachineFault.{MachineFault}
 use Rattle.rv_machine.specs.declared.seen.Step.{Step}
 use Rattle.rv_machine.specs.State.{State, register_of, with_register}
@@ -28,7 +30,7 @@ made_of effect held outside = settled (state_of held outside) effect
 
 -- the same of an instruction
 abbrev pub made_by : Instr → Held → Outside → StepOutcome
-made_by instr held = made_of (effect_of held.has_note instr held.pc held.registers (memory_of held.blocks)) held
+made_by instr held = made_of (effect_of (is_some held.note) instr held.pc held.registers (memory_of held.memory)) held
 
 -- the buffer of a call
 abbrev pub buffer_in : Held → List ℕ
@@ -36,14 +38,16 @@ buffer_in held = span (register_of held.registers 11) (register_of held.register
 
 -- the effects of the calls that move bytes
 abbrev pub read_in : Held → Effect
-read_in held = read_call (register_of held.registers 10) (buffer_in held) (memory_of held.blocks)
+read_in held = read_call (register_of held.registers 10) (buffer_in held) (memory_of held.memory)
 
 abbrev pub write_in : Held → Effect
-write_in held = write_call held.has_note (register_of held.registers 10) (register_of held.registers 12) (buffer_in held) (memory_of held.blocks)
+write_in held = write_call (is_some held.note) (register_of held.registers 10) (register_of held.registers 12) (buffer_in held) (memory_of held.memory)
 
 -- what a machine keeps through each step
 pub record Stays (before now : Held) : Type 0 where
   pub program : program_in now ≡ program_in before
+  pub note : now.note ≡ before.note
+  pub outline : outline now.memory.stretches ≡ outline before.memory.stretches
   pub kept : now.kept ≡ before.kept
 
 -- An instruction was carried out, without the ports: it went on with this access, or is to end the run.
@@ -55,9 +59,9 @@ pub record EndsAlone (outcome : Outside → StepOutcome) (before : Held) (ending
   pub step : (outside : Outside) → outcome outside ≡ EndedWith ending []
   pub same : now ≡ before
 
-abbrev pub CarriesOut : (outcome : Outside → StepOutcome) → (before : Held) → Result (Option Item) Ending → (now : Held) → Type 0
-CarriesOut outcome before (Ok access) now = WentAlone outcome before access now
-CarriesOut outcome before (Err ending) now = EndsAlone outcome before ending now
+abbrev pub ActsAlone : (outcome : Outside → StepOutcome) → (before : Held) → Acted → (now : Held) → Type 0
+ActsAlone outcome before (Acted.Went access) now = WentAlone outcome before access now
+ActsAlone outcome before (Acted.Ended ending) now = EndsAlone outcome before ending now
 
 -- the outputs before these bytes passed and after
 pub record Follows (before next : Outside) (passed : Passed) : Type 0 where
@@ -75,6 +79,8 @@ pub record GivenBefore (before : Outside) (passed : Passed) (next : State) : Typ
 pub record WentOn (outcome : Outside → StepOutcome) (before : Held) (told : Told) (items : List Item) (now : Held) (told_now : Told) : Type 0 where
   pub passed : Passed
   pub ports : HasPassed told told_now passed
+  -- whatever the outside has, the outcome goes on with these items
+  pub goes : (outside : Outside) → (next : State) × (outcome outside ≡ Went next items)
   pub step :
       (outside : Outside) → told.input ≡ Some outside.input
       → (next : Outside) × Follows outside next passed × (told_now.input ≡ Some next.input) × (outcome outside ≡ Went (state_of now next) items)
@@ -96,15 +102,15 @@ pub record Breaks (outcome : Outside → StepOutcome) (before : Held) (told : To
   pub stays : Stays before now
 
 -- what an instruction does
-abbrev pub Acts : (outcome : Outside → StepOutcome) → (before : Held) → Told → Result (Result (Option Item) Ending) MachineFault → (now : Held) → Told → Type 0
-Acts outcome before told (Ok (Ok access)) now told_now = WentOn outcome before told (option_to_list access) now told_now
-Acts outcome before told (Ok (Err ending)) now told_now = Stops outcome before told ending [] now told_now
+abbrev pub Acts : (outcome : Outside → StepOutcome) → (before : Held) → Told → Result Acted MachineFault → (now : Held) → Told → Type 0
+Acts outcome before told (Ok (Acted.Went access)) now told_now = WentOn outcome before told (option_to_list access) now told_now
+Acts outcome before told (Ok (Acted.Ended ending)) now told_now = Stops outcome before told ending [] now told_now
 Acts outcome before told (Err fault) now told_now = Breaks outcome before told now told_now
 
 -- what a step answers whose instruction did this
-abbrev pub step_with : (pc : ℕ) → Result (Result (Option Item) Ending) MachineFault → Result Step MachineFault
-step_with pc (Ok (Ok access)) = Ok (Step.Went (record { fetch = Some pc; access = access }))
-step_with pc (Ok (Err ending)) = Ok (Step.Ended ending (record { fetch = Some pc; access = None }))
+abbrev pub step_with : (pc : ℕ) → Result Acted MachineFault → Result Step MachineFault
+step_with pc (Ok (Acted.Went access)) = Ok (Step.Went (record { fetch = Some pc; access = access }))
+step_with pc (Ok (Acted.Ended ending)) = Ok (Step.Ended ending (record { fetch = Some pc; access = None }))
 step_with pc (Err fault) = Err fault
 
 -- what a step does
@@ -120,7 +126,7 @@ with_answer held answer = record held { pc = wrap (held.pc + 4); registers = wit
 -- the bytes of the buffer may be given as events
 abbrev pub may_give_events : Held → Bool
 may_give_events held =
-    held.has_note && nat_le 1 (register_of held.registers 12) && is_none (first_hole (memory_of held.blocks) (buffer_in held))
+    is_some held.note && nat_le 1 (register_of held.registers 12) && is_none (first_hole (memory_of held.memory) (buffer_in held))
     && list_all (λ address. nat_le tracer_start address) (buffer_in held)
 
 -- The bytes of the buffer were given to a sink and their number was answered, or where that isn't allowed, a refusal was.
@@ -128,9 +134,9 @@ abbrev pub Gave : (allowed : Bool) → (refusal : ℕ) → (before : Held) → (
 Gave false refusal before told (Ok done) now told_now = (now ≡ with_answer before refusal) × (told_now ≡ told)
 Gave false refusal before told (Err fault) now told_now = ⊥
 Gave true refusal before told (Ok done) now told_now =
-    (now ≡ with_answer before (register_of before.registers 12)) × Appends told told_now (bytes_at (memory_of before.blocks) (buffer_in before))
+    (now ≡ with_answer before (register_of before.registers 12)) × Appends told told_now (bytes_at (memory_of before.memory) (buffer_in before))
 Gave true refusal before told (Err fault) now told_now =
-    (now ≡ before) × AppendsFront told told_now (bytes_at (memory_of before.blocks) (buffer_in before))
+    (now ≡ before) × AppendsFront told told_now (bytes_at (memory_of before.memory) (buffer_in before))
 
 -- the state after an outcome; an ending leaves the state as it was
 abbrev pub state_after : State → StepOutcome → State
