@@ -4,14 +4,14 @@ use Rattle.std.specs.List.{All, AllByRecursion, Contains, filter, flat_map, rang
 use Rattle.std.specs.List.Sorted.{IsStrictlyIncreasing}
 use Rattle.std.proofs.lemmas.Bool.{and_parts, leb-true, eqb-true}
 use Rattle.std.proofs.lemmas.List.Elements.{All-from_recursion, All-contains_itself, All-weaker, Contains-append_left, Contains-append_right, recursion_from_All}
-use Rattle.ae_lists.proofs.Ordered.{rising-IsStrictlyIncreasing, Contains-from_rising}
+use Rattle.rv_code.proofs.LawsOfLists.{rising-IsStrictlyIncreasing, Contains-from_rising}
 use Rattle.elf_raw.specs.declared.section.RawSection.{RawSection}
 use Rattle.elf_raw.specs.declared.segment.RawSegment.{RawSegment}
 use Rattle.elf_raw.specs.Sections.{sections_of}
 use Rattle.rv_code.specs.declared.extent.Extent.{Extent}
 use Rattle.rv_code.specs.Code.{extent_end, is_code}
-use Rattle.rv_code.specs.Places.{words_of, code_addresses, IsRun, AreRuns}
-use Rattle.rv_code.proofs.InOrder.{is_word_of-Contains, is_code-Contains, Contains-is_code, code_addresses-runs_of, runs_of-AreRuns}
+use Rattle.rv_code.specs.Places.{words_of, code_addresses, IsCodeExtent, AreCodeExtents}
+use Rattle.rv_code.proofs.LawsOfPlaces.{is_word_of-Contains, is_code-Contains, Contains-is_code, code_addresses-extents_at, extents_at-AreCodeExtents}
 use Rattle.elf_image.specs.CodeWords.{code_load, lies_in, is_code_section, words_in, code_words, is_code_word, extents_in}
 use Rattle.elf_image.proofs.Joined.{stands, same_answers}
 use Rattle.elf_image.proofs.WordsIn.{word_below}
@@ -50,11 +50,11 @@ code_word-in_load bytes address within =
 
 -- an extent lies there
 pub record IsExtentIn (load : RawSegment) (extent : Extent) : Type 0 where
-  pub run : IsRun extent
+  pub run : IsCodeExtent extent
   pub above : load.vaddr ≤ extent.start
   pub below : extent_end extent ≤ load.vaddr + load.filesz
 
-extent_in_load : (load : RawSegment) (extent : Extent) → IsRun extent → ((address : ℕ) → Contains (words_of extent) address → IsWordIn load address) → IsExtentIn load extent
+extent_in_load : (load : RawSegment) (extent : Extent) → IsCodeExtent extent → ((address : ℕ) → Contains (words_of extent) address → IsWordIn load address) → IsExtentIn load extent
 extent_in_load load extent run words =
     let first_in = words extent.start (is_word_of-Contains extent extent.start run.aligned (stands extent extent.start (omega arith) (omega (arith, run.some)) run.aligned)) in
     let last_in = words (extent.start + 4 * (extent.count - 1))
@@ -63,7 +63,7 @@ extent_in_load load extent run words =
     in
     record { run = run; above = first_in.above; below = omega (arith, last_in.below, run.some) }
 
-extents_in_load : (load : RawSegment) (extents : List Extent) → AllByRecursion IsRun extents → ((address : ℕ) → Contains (code_addresses extents) address → IsWordIn load address)
+extents_in_load : (load : RawSegment) (extents : List Extent) → AllByRecursion IsCodeExtent extents → ((address : ℕ) → Contains (code_addresses extents) address → IsWordIn load address)
     → AllByRecursion (IsExtentIn load) extents
 extents_in_load load [] runs words = tt
 extents_in_load load (extent ∷ extents) runs words = (
@@ -74,27 +74,27 @@ extents_in_load load (extent ∷ extents) runs words = (
 pub code_words-IsStrictlyIncreasing : (bytes : List ℕ) → IsStrictlyIncreasing (code_words bytes)
 code_words-IsStrictlyIncreasing bytes = rising-IsStrictlyIncreasing (flat_map words_in (filter (is_code_section (code_load bytes)) (sections_of bytes)))
 
-pub extents_in-AreRuns : (bytes : List ℕ) → AreRuns (extents_in bytes)
-extents_in-AreRuns bytes =
+pub extents_in-AreCodeExtents : (bytes : List ℕ) → AreCodeExtents (extents_in bytes)
+extents_in-AreCodeExtents bytes =
     let aligned : All (λ address. address % 4 ≡ 0) (code_words bytes) =
     All-weaker (Contains (code_words bytes)) (λ address. address % 4 ≡ 0) (λ address within. (code_word-in_load bytes address within).aligned) (code_words bytes)
     (All-contains_itself (code_words bytes))
     in
-    runs_of-AreRuns (code_words bytes) (code_words-IsStrictlyIncreasing bytes) (recursion_from_All (λ address. address % 4 ≡ 0) (code_words bytes) aligned)
+    extents_at-AreCodeExtents (code_words bytes) (code_words-IsStrictlyIncreasing bytes) (recursion_from_All (λ address. address % 4 ≡ 0) (code_words bytes) aligned)
 
 -- the extents have exactly the code words
 pub extents_in-words : (bytes : List ℕ) → code_addresses (extents_in bytes) ≡ code_words bytes
-extents_in-words bytes = code_addresses-runs_of (code_words bytes)
+extents_in-words bytes = code_addresses-extents_at (code_words bytes)
 
 pub extents_in-in_load : (bytes : List ℕ) → AllByRecursion (IsExtentIn (code_load bytes)) (extents_in bytes)
 extents_in-in_load bytes =
-    extents_in_load (code_load bytes) (extents_in bytes) (extents_in-AreRuns bytes).each
+    extents_in_load (code_load bytes) (extents_in bytes) (extents_in-AreCodeExtents bytes).each
     (λ address within. code_word-in_load bytes address (subst (λ words. Contains words address) (extents_in-words bytes) within))
 
 -- a code word stands at an address exactly where the extents have one
 pub extents_in-is_code : (bytes : List ℕ) (address : ℕ) → is_code (extents_in bytes) address ≡ is_code_word bytes address
 extents_in-is_code bytes address =
-    let runs = extents_in-AreRuns bytes in
+    let runs = extents_in-AreCodeExtents bytes in
     same_answers (is_code (extents_in bytes) address) (is_code_word bytes address)
     (λ is.
     any-from_Contains (code_words bytes) address

@@ -10,7 +10,7 @@ use Rattle.std.proofs.lemmas.Bool.Decides.{nat_tests}
 use Rattle.std.proofs.lemmas.List.{drop-drop, drop-take, take-take, length-drop, length-map}
 use Rattle.std.proofs.lemmas.List.Elements.{All-contains_itself, All-get_or, All-map, All-weaker, filter_passes, recursion_from_All}
 use Rattle.std.proofs.lemmas.Simd.{map-map}
-use Rattle.ae_lists.proofs.Ordered.{rising-IsStrictlyIncreasing, Contains-from_rising}
+use Rattle.rv_code.proofs.LawsOfLists.{rising-IsStrictlyIncreasing, Contains-from_rising}
 use Rattle.elf_raw.specs.Numbers.{word_at}
 use Rattle.elf_raw.specs.Refusal.{IsSound}
 use Rattle.elf_raw.specs.Relocations.{relocations_of}
@@ -22,11 +22,12 @@ use Rattle.rv_code.specs.Code.{extents_of, is_code}
 use Rattle.rv_code.specs.Image.{HoldsWords, IsRange, RangesRise, word_count}
 use Rattle.rv_code.specs.Numbers.{IsByte, IsWord, bytes_of}
 use Rattle.rv_code.specs.Places.{words_of, code_addresses, ExtentsRise}
-use Rattle.rv_code.proofs.InOrder.{length-words_of, length-code_addresses_of_ranges, RangesRise-from_extents}
-use Rattle.elf_image.specs.CodeWords.{HasCodeLoad, code_load, code_words, is_code_word, value_at, range_of, extents_in, code_of, is_function, name_of, names_of}
-use Rattle.elf_image.specs.Loads.{piece_of, region_of, bad_segment}
+use Rattle.rv_code.proofs.LawsOfPlaces.{length-words_of, length-code_addresses_of_ranges, RangesRise-from_extents}
+use Rattle.elf_image.specs.CodeWords.{code_load, code_words, is_code_word, value_at, range_of, extents_in, code_of, is_function, name_of, names_of}
+use Rattle.elf_image.specs.Inner.Loaded.{HasCodeLoad}
+use Rattle.elf_image.specs.Loads.{piece_of, region_of, bad_program_header}
 use Rattle.elf_image.specs.Named.{is_naming, address_named, named_of}
-use Rattle.elf_image.proofs.CodeAt.{IsExtentIn, extents_in-AreRuns, extents_in-in_load, extents_in-is_code, extents_in-count}
+use Rattle.elf_image.proofs.CodeAt.{IsExtentIn, extents_in-AreCodeExtents, extents_in-in_load, extents_in-is_code, extents_in-count}
 use Rattle.elf_image.proofs.CodeLoad.{code_load_kept}
 use Rattle.elf_image.proofs.GoodLoads.{good}
 use Rattle.elf_image.proofs.NoteKept.{word_below}
@@ -178,7 +179,7 @@ code_of-extents bytes = extents_of-ranges bytes (extents_in bytes)
 
 pub code_of-RangesRise : (bytes : List ℕ) → RangesRise (code_of bytes)
 code_of-RangesRise bytes =
-    RangesRise-from_extents (code_of bytes) (subst (λ extents. ExtentsRise extents) (sym (code_of-extents bytes)) (extents_in-AreRuns bytes).rise)
+    RangesRise-from_extents (code_of bytes) (subst (λ extents. ExtentsRise extents) (sym (code_of-extents bytes)) (extents_in-AreCodeExtents bytes).rise)
 
 pub code_of-is_code : (bytes : List ℕ) (address : ℕ) → is_code (extents_of (code_of bytes)) address ≡ is_code_word bytes address
 code_of-is_code bytes address = ap (λ extents. is_code extents address) (code_of-extents bytes) ∙ extents_in-is_code bytes address
@@ -221,7 +222,7 @@ none_past whole offset size within = elim (cases_eq size 0) [
 ]
 
 -- a file of whose program headers none offends has its code in one
-pub has_code_load : (bytes : List ℕ) → IsSound bytes → bad_segment bytes ≡ None → HasCodeLoad bytes
+pub has_code_load : (bytes : List ℕ) → IsSound bytes → bad_program_header bytes ≡ None → HasCodeLoad bytes
 has_code_load bytes sound none =
     let kept = code_load_kept bytes sound none in
     record {

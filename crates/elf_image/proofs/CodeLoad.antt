@@ -16,9 +16,9 @@ use Rattle.elf_raw.specs.Refusal.{IsSound}
 use Rattle.elf_raw.specs.Segments.{segments_of}
 use Rattle.rv_code.specs.declared.image.Region.{Region}
 use Rattle.rv_code.specs.Addresses.{stack_start, tracer_start}
-use Rattle.ae_lists.proofs.Ordered.{ordered-IsPermutation}
+use Rattle.rv_code.proofs.LawsOfLists.{ordered-IsPermutation}
 use Rattle.elf_image.specs.CodeWords.{code_load}
-use Rattle.elf_image.specs.Loads.{is_load, is_code_load, has_note, load_end, piece_of, bad_segment, region_of, regions_of}
+use Rattle.elf_image.specs.Loads.{is_load, is_code_load, has_note, load_end, piece_of, bad_program_header, region_of, regions_of}
 use Rattle.elf_image.proofs.GoodLoads.{good}
 use Rattle.elf_image.proofs.HeaderRows.{header_row, headers_number}
 use Rattle.elf_image.proofs.RegionsKept.{IsWholeLoad, whole_loads, piece_length, allowed_cases}
@@ -59,26 +59,26 @@ pub record IsCodeLoad (bytes : List ℕ) (load : RawSegment) : Type 0 where
   pub piece : length (piece_of bytes load) ≡ load.filesz
   pub below : load_end load ≤ 2 ^ 32
 
-code_place : (bytes : List ℕ) → bad_segment bytes ≡ None → position_or_len is_code_load (segments_of bytes) < length (segments_of bytes)
+code_place : (bytes : List ℕ) → bad_program_header bytes ≡ None → position_or_len is_code_load (segments_of bytes) < length (segments_of bytes)
 code_place bytes none = first_within is_code_load (segments_of bytes) (good bytes none).code
 
-code_row : (bytes : List ℕ) (d : RawSegment) → bad_segment bytes ≡ None → get_or (segments_of bytes) (position_or_len is_code_load (segments_of bytes)) d ≡ code_load bytes
+code_row : (bytes : List ℕ) (d : RawSegment) → bad_program_header bytes ≡ None → get_or (segments_of bytes) (position_or_len is_code_load (segments_of bytes)) d ≡ code_load bytes
 code_row bytes d none =
     let place : position_or_len is_code_load (segments_of bytes) < (header_of bytes).phnum = omega (arith, code_place bytes none, headers_number bytes) in
     header_row bytes (position_or_len is_code_load (segments_of bytes)) d place
 
-code_is : (bytes : List ℕ) → bad_segment bytes ≡ None → is_code_load (code_load bytes) ≡ true
+code_is : (bytes : List ℕ) → bad_program_header bytes ≡ None → is_code_load (code_load bytes) ≡ true
 code_is bytes none =
     ap is_code_load (sym (code_row bytes (code_load bytes) none))
     ∙ passes_at_first is_code_load (segments_of bytes) (code_load bytes) (code_place bytes none)
 
-code_among : (bytes : List ℕ) → bad_segment bytes ≡ None → Contains (filter is_load (segments_of bytes)) (code_load bytes)
+code_among : (bytes : List ℕ) → bad_program_header bytes ≡ None → Contains (filter is_load (segments_of bytes)) (code_load bytes)
 code_among bytes none =
     Contains-filter is_load (segments_of bytes) (code_load bytes)
     (position_or_len is_code_load (segments_of bytes), code_place bytes none, code_row bytes (code_load bytes) none)
     (and_parts _ _ (code_is bytes none)).0
 
-code_held : (bytes : List ℕ) → bad_segment bytes ≡ None → Contains (regions_of bytes) (region_of bytes (code_load bytes))
+code_held : (bytes : List ℕ) → bad_program_header bytes ≡ None → Contains (regions_of bytes) (region_of bytes (code_load bytes))
 code_held bytes none =
     Contains-permutation (map (region_of bytes) (filter is_load (segments_of bytes))) (regions_of bytes) (region_of bytes (code_load bytes))
     (ordered-IsPermutation (λ (region : Region). region.start) (map (region_of bytes) (filter is_load (segments_of bytes))))
@@ -91,7 +91,7 @@ in_space : (noted : Bool) (start end : ℕ) → (end ≤ stack_start) ⊎ (IsTru
 in_space noted start end (inl below) = omega arith
 in_space noted start end (inr above) = above.2
 
-pub code_load_kept : (bytes : List ℕ) → IsSound bytes → bad_segment bytes ≡ None → IsCodeLoad bytes (code_load bytes)
+pub code_load_kept : (bytes : List ℕ) → IsSound bytes → bad_program_header bytes ≡ None → IsCodeLoad bytes (code_load bytes)
 code_load_kept bytes sound none =
     let load : RawSegment = code_load bytes in
     let kept : IsWholeLoad bytes (has_note (segments_of bytes)) load =

@@ -4,7 +4,6 @@ use Rattle.std.proofs.lemmas.Bool.Decides.{nat_tests}
 use Rattle.std.proofs.lemmas.List.{length-append}
 use Rattle.std.specs.Option.{option_map, option_or}
 use Rattle.std.specs.Prelude.{nat_lt}
-use Rattle.elf_image.specs.declared.fault.ImageFault.{ImageFault}
 use Rattle.elf_image.specs.declared.fault.ImageFault.TheVariants.{NoCode, EntryNotCode, BadRelocation, TooLarge}
 use Rattle.elf_image.specs.declared.fault.Over.{Over}
 use Rattle.elf_image.specs.declared.fault.Over.TheVariants.{Mapped, Ranges, Words}
@@ -15,13 +14,15 @@ use Rattle.rv_code.specs.declared.extent.Extent.{Extent}
 use Rattle.rv_code.specs.Code.{is_code}
 use Rattle.rv_code.specs.Image.{mapped_length}
 use Rattle.rv_code.specs.Limits.{mapped_limit, ranges_limit, words_limit}
-use Rattle.rv_code.specs.Places.{words_of, code_addresses, AreRuns}
-use Rattle.rv_code.proofs.InOrder.{length-words_of}
+use Rattle.rv_code.specs.Places.{words_of, code_addresses, AreCodeExtents}
+use Rattle.rv_code.proofs.LawsOfPlaces.{length-words_of}
+use Rattle.rv_code.proofs.LawsOfRows.{none_left, none_mapped, none_first, none_second}
 use Rattle.elf_image.specs.CodeWords.{code_words, is_code_word, extents_in}
-use Rattle.elf_image.specs.Loads.{has_note, loaded_length, bad_segment, regions_of}
+use Rattle.elf_image.specs.Loads.{has_note, bad_program_header, regions_of}
+use Rattle.elf_image.specs.Inner.Loaded.{loaded_length}
 use Rattle.elf_image.specs.Named.{bad_relocation}
 use Rattle.elf_image.specs.Refusal.{over_of, too_large, code_refusal}
-use Rattle.elf_image.proofs.CodeAt.{extents_in-AreRuns, extents_in-is_code, extents_in-count}
+use Rattle.elf_image.proofs.CodeAt.{extents_in-AreCodeExtents, extents_in-is_code, extents_in-count}
 use Rattle.elf_image.proofs.Mapped.{mapped_length_is}
 
 -- the answer by the four answers below it
@@ -44,7 +45,7 @@ pub entry_code : (bytes : List ℕ) (extents : List Extent) (address : ℕ) (ent
 entry_code bytes extents address entry is at code =
     sym (code ∙ ap (λ es. is_code es address) is ∙ extents_in-is_code bytes address ∙ ap (is_code_word bytes) at)
 
-pub over_is : (bytes : List ℕ) (extents : List Extent) (over : Option Over) → IsSound bytes → bad_segment bytes ≡ None → extents ≡ extents_in bytes
+pub over_is : (bytes : List ℕ) (extents : List Extent) (over : Option Over) → IsSound bytes → bad_program_header bytes ≡ None → extents ≡ extents_in bytes
     → over ≡ over_of (has_note (segments_of bytes)) (loaded_length (segments_of bytes)) (length extents) (length (code_addresses extents)) → too_large bytes ≡ over
 over_is bytes extents over sound good is got =
     let noted = has_note (segments_of bytes) in
@@ -57,7 +58,7 @@ over_is bytes extents over sound good is got =
 pub some_words : (bytes : List ℕ) (extents : List Extent) → extents ≡ extents_in bytes → length extents ≢ 0 → eqb (length (code_words bytes)) 0 ≡ false
 some_words bytes [] is some = absurd (some refl)
 some_words bytes (extent ∷ extents) is some =
-    let runs = subst (λ es. AreRuns es) (sym is) (extents_in-AreRuns bytes) in
+    let runs = subst (λ es. AreCodeExtents es) (sym is) (extents_in-AreCodeExtents bytes) in
     let count : length (words_of extent ++ code_addresses extents) ≡ length (words_of extent) + length (code_addresses extents) = length-append (words_of extent) (code_addresses extents) in
     let first : length (words_of extent) ≡ extent.count = length-words_of extent in
     let more : 0 < extent.count = runs.each.0.some in
@@ -66,18 +67,6 @@ some_words bytes (extent ∷ extents) is some =
     grind (arith, nat_tests)
 
 -- an answer of None leaves out each refusal
-
-none_left : {A : Type 0} (t : Bool) (x : A) (rest : Option A) → cond t (Some x) rest ≡ None → (t ≡ false) × (rest ≡ None)
-none_left true x rest is = absurd (cc is)
-none_left false x rest is = (refl, is)
-
-none_first : {A B : Type 0} (f : A → B) (first : Option A) (second : Option B) → option_or (option_map f first) second ≡ None → (first ≡ None) × (second ≡ None)
-none_first f None second is = (refl, is)
-none_first f (Some x) second is = absurd (cc is)
-
-none_mapped : {A B : Type 0} (f : A → B) (o : Option A) → option_map f o ≡ None → o ≡ None
-none_mapped f None is = refl
-none_mapped f (Some x) is = absurd (cc is)
 
 not_false : (t : Bool) → not t ≡ false → t ≡ true
 not_false true is = refl
@@ -97,14 +86,14 @@ pub code_accepted : (bytes : List ℕ) → code_refusal bytes ≡ None → IsCod
 code_accepted bytes is =
     let some = none_left _ NoCode _ is in
     let entry = none_left _ EntryNotCode _ some.1 in
-    let found = none_first BadRelocation (bad_relocation bytes) (option_map TooLarge (too_large bytes)) entry.1 in
-    let over = none_mapped TooLarge (too_large bytes) found.1 in
+    let found = none_mapped BadRelocation (bad_relocation bytes) (none_first (option_map BadRelocation (bad_relocation bytes)) (option_map TooLarge (too_large bytes)) entry.1) in
+    let over = none_mapped TooLarge (too_large bytes) (none_second (option_map BadRelocation (bad_relocation bytes)) (option_map TooLarge (too_large bytes)) entry.1) in
     let mapped = none_left _ Mapped _ over in
     let ranges = none_left _ Ranges _ mapped.1 in
     let words = none_left _ Words _ ranges.1 in
     record {
       entry = not_false _ entry.0;
-      relocations = found.0;
+      relocations = found;
       mapped = no_more mapped_limit (mapped_length (regions_of bytes)) mapped.0;
       ranges = no_more ranges_limit (length (extents_in bytes)) ranges.0;
       words = no_more (words_limit (has_note (segments_of bytes))) (length (code_words bytes)) words.0;

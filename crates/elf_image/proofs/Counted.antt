@@ -4,7 +4,7 @@ use Rattle.std.proofs.lemmas.List.{take_more, append-nil}
 use Rattle.std.proofs.lemmas.Grind.{flat_map-append}
 use Rattle.rv_code.specs.declared.extent.Extent.{Extent}
 use Rattle.rv_code.specs.Places.{words_of, code_addresses}
-use Rattle.rv_code.proofs.InOrder.{length-words_of}
+use Rattle.rv_code.proofs.LawsOfPlaces.{length-words_of}
 
 pub length_more : (extents : List Extent) (i : ℕ) (d : Extent) → i < length extents
     → length (code_addresses (take (i + 1) extents)) ≡ length (code_addresses (take i extents)) + (get_or extents i d).count

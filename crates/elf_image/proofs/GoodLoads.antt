@@ -1,19 +1,18 @@
 -- What the program headers of a file have of which none offends.
-use Rattle.std.proofs.Common.{◌≡◌, ℕ, zero, suc, ◌+◌, ◌<◌, ◌≤◌, Bool, true, false, cond, List, [], ◌∷◌, ◌++◌, length, get_or, Option, None, Some, refl, sym, ap, ◌∙◌, inl, inr, subst, arith, add-one, zero-add, length-append}
+use Rattle.std.proofs.Common.{◌≡◌, ℕ, zero, suc, ◌+◌, ◌<◌, ◌≤◌, Bool, true, false, cond, List, [], ◌∷◌, ◌++◌, length, Option, None, Some, refl, sym, ap, ◌∙◌, inl, inr, subst, arith, add-one, length-append}
 use Rattle.std.specs.Prelude.{not, ◌&&◌}
-use Rattle.std.specs.Option.{option_or}
-use Rattle.std.specs.List.{All, AllPairs, filter, find, list_any, range_with_len}
+use Rattle.std.specs.List.{All, AllPairs, filter, list_any}
 use Rattle.std.proofs.lemmas.Bool.{cases_Bool, or_parts, ltb-false, leb-false}
 use Rattle.std.proofs.lemmas.List.{append-nil}
 use Rattle.std.proofs.lemmas.List.Elements.{All-nil, All-push}
-use Rattle.std.proofs.lemmas.List.FromFn.{get_or-range_with_len, length-range_with_len}
 use Rattle.std.proofs.lemmas.List.Quantifiers.{all_pairs_push}
 use Rattle.elf_raw.specs.declared.segment.RawSegment.{RawSegment}
 use Rattle.elf_raw.specs.Header.{header_of}
 use Rattle.elf_raw.specs.Segments.{segment_of, segments_of}
 use Rattle.rv_code.specs.Limits.{regions_limit}
-use Rattle.elf_image.specs.Loads.{is_load, is_code_load, has_note, is_allowed, shares_byte, load_offends, before, bad_load_at, bad_note_at, bad_load, code_or_note, bad_segment}
-use Rattle.elf_image.proofs.Found.{none_passes, none_any}
+use Rattle.rv_code.proofs.LawsOfRows.{none_first, none_second, each_fails}
+use Rattle.elf_image.specs.Loads.{is_load, is_code_load, has_note, is_allowed, shares_byte, load_offends, before, bad_load_at, bad_note_at, bad_load, code_or_note, bad_program_header}
+use Rattle.elf_image.proofs.Found.{none_any}
 use Rattle.elf_image.proofs.HeaderRows.{before_rows, passing_more}
 
 pub record IsGoodLoad (noted : Bool) (segment : RawSegment) : Type 0 where
@@ -90,25 +89,11 @@ pub record IsGood (bytes : List ℕ) : Type 0 where
   pub code : list_any is_code_load (segments_of bytes) ≡ true
   pub notes : (number : ℕ) → number < (header_of bytes).phnum → bad_note_at bytes number ≡ false
 
-none_first : {X : Type 0} (first second : Option X) → option_or first second ≡ None → first ≡ None
-none_first None second is = refl
-none_first (Some x) second is = absurd (cc is)
-
-none_second : {X : Type 0} (first second : Option X) → option_or first second ≡ None → second ≡ None
-none_second None second is = is
-none_second (Some x) second is = absurd (cc is)
-
--- a test of numbers that finds none
-each_fails : (p : ℕ → Bool) (count : ℕ) → find p (range_with_len 0 count) ≡ None → (number : ℕ) → number < count → p number ≡ false
-each_fails p count none number within =
-    let here : get_or (range_with_len 0 count) number 0 ≡ number = get_or-range_with_len 0 count number 0 within ∙ zero-add number in
-    ap p (sym here) ∙ none_passes p (range_with_len 0 count) none number 0 (omega (arith, length-range_with_len 0 count))
-
 choice_none : {X : Type 0} (t : Bool) (x : X) (rest : Option X) → cond t rest (Some x) ≡ None → (t ≡ true) × (rest ≡ None)
 choice_none true x rest is = (refl, is)
 choice_none false x rest is = absurd (cc is)
 
-pub good : (bytes : List ℕ) → bad_segment bytes ≡ None → IsGood bytes
+pub good : (bytes : List ℕ) → bad_program_header bytes ≡ None → IsGood bytes
 good bytes none =
     let loads : bad_load bytes ≡ None = none_first (bad_load bytes) (code_or_note bytes) none in
     let notes = choice_none _ _ _ (none_second (bad_load bytes) (code_or_note bytes) none) in

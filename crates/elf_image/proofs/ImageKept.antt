@@ -1,37 +1,38 @@
 -- The image of a file that isn't refused is an image.
-use Rattle.std.proofs.Common.{◌≡◌, ℕ, suc, ◌<◌, ◌≤◌, ◌^◌, List, length, get_or, map, arith, Option, None, inl, inr, refl, sym, ap, ◌∙◌, subst}
+use Rattle.std.proofs.Common.{◌≡◌, ℕ, suc, ◌<◌, ◌≤◌, ◌^◌, List, length, get_or, arith, Option, None, sym, ◌∙◌, subst}
 use Rattle.std.specs.List.{All}
 use Rattle.std.specs.Prelude.{is_some}
-use Rattle.std.proofs.lemmas.Bool.{cases_lt}
-use Rattle.std.proofs.lemmas.List.{length-map, get_or_past}
-use Rattle.std.proofs.lemmas.List.Elements.{All-get_or}
+use Rattle.std.proofs.lemmas.List.{length-map}
 use Rattle.std.proofs.lemmas.List.FromFn.{length-map-range_with_len}
 use Rattle.elf_raw.specs.Header.{header_of}
 use Rattle.elf_raw.specs.Numbers.{half_at}
 use Rattle.elf_raw.specs.Refusal.{IsSound}
 use Rattle.elf_raw.specs.Sections.{sections_of, section_of}
 use Rattle.elf_raw.specs.Segments.{segments_of}
+use Rattle.std.specs.Option.{option_map}
+use Rattle.rv_code.proofs.LawsOfRows.{none_left, none_mapped, none_first, none_second}
 use Rattle.rv_code.specs.declared.image.Image.{Image}
 use Rattle.rv_code.specs.declared.image.Name.{Name}
 use Rattle.rv_code.specs.declared.image.Note.{Note}
 use Rattle.rv_code.specs.declared.image.Range.{Range}
 use Rattle.rv_code.specs.declared.image.Region.{Region}
-use Rattle.rv_code.specs.Image.{IsImage, word_count}
+use Rattle.rv_code.specs.Image.{IsImage}
 use Rattle.rv_code.specs.Limits.{ranges_limit, words_limit}
 use Rattle.rv_code.specs.Numbers.{IsByte}
 use Rattle.elf_image.specs.Accepted.{image_of}
 use Rattle.elf_image.specs.CodeWords.{code_words, code_of, range_of, names_of, extents_in}
-use Rattle.elf_image.specs.Loads.{bad_segment, has_note, note_in, regions_of}
+use Rattle.elf_image.specs.Loads.{bad_program_header, note_in, regions_of}
 use Rattle.elf_image.specs.Named.{named_of}
-use Rattle.elf_image.specs.Refusal.{code_refusal}
+use Rattle.elf_image.specs.declared.fault.ImageFault.TheVariants.{Dynamic, Segments}
+use Rattle.elf_image.specs.Refusal.{code_refusal, image_refusal}
 use Rattle.elf_image.proofs.CodeKept.{code_of-AreRanges, code_of-RangesRise, code_of-is_code, code_of-word_count, names_of-are_code, named_of-are_code, named_of-IsStrictlyIncreasing, has_code_load}
 use Rattle.elf_image.proofs.CodeLoad.{code_load_kept}
 use Rattle.elf_image.proofs.CodeRefused.{code_accepted}
 use Rattle.elf_image.proofs.HeaderRows.{headers_number}
-use Rattle.elf_image.proofs.NoteKept.{is_some-note_in, note_in_sound}
+use Rattle.elf_image.proofs.NoteKept.{byte_at, is_some-note_in, note_in_sound}
 use Rattle.elf_image.proofs.RegionsKept.{regions_each, regions_rise, regions_few}
 
-pub image_kept : (bytes : List ℕ) → All IsByte bytes → IsSound bytes → bad_segment bytes ≡ None → code_refusal bytes ≡ None → IsImage (image_of bytes)
+pub image_kept : (bytes : List ℕ) → All IsByte bytes → IsSound bytes → bad_program_header bytes ≡ None → code_refusal bytes ≡ None → IsImage (image_of bytes)
 image_kept bytes all sound good none =
     let accepted = code_accepted bytes none in
     let load = code_load_kept bytes sound good in
@@ -53,6 +54,13 @@ image_kept bytes all sound good none =
       };
     }
 
+-- the same of a file that is accepted
+pub image_accepted : (bytes : List ℕ) → All IsByte bytes → IsSound bytes → image_refusal bytes ≡ None → IsImage (image_of bytes)
+image_accepted bytes all sound none =
+    let segments = none_left _ Dynamic _ none in
+    let good : bad_program_header bytes ≡ None = none_mapped Segments (bad_program_header bytes) (none_first (option_map Segments (bad_program_header bytes)) (code_refusal bytes) segments.1) in
+    image_kept bytes all sound good (none_second (option_map Segments (bad_program_header bytes)) (code_refusal bytes) segments.1)
+
 abbrev image_with : (entry : ℕ) (regions : List Region) (code : List Range) (names : List Name) (named : List ℕ) (found : Option Note) → Image
 image_with entry regions code names named found = record { entry = entry; regions = regions; code = code; names = names; named = named; note = found }
 
@@ -64,12 +72,6 @@ image_is bytes entry regions code names named found same_entry same_regions same
     λ i. record { entry = same_entry i; regions = same_regions i; code = same_code i; names = same_names i; named = same_named i; note = same_note i }
 
 -- counts of the header are of two bytes
-
-byte_at : (bytes : List ℕ) (place : ℕ) → All IsByte bytes → IsByte (get_or bytes place 0)
-byte_at bytes place all = elim (cases_lt place (length bytes)) [
-  | inl within ↦ All-get_or IsByte bytes place 0 within all
-  | inr past ↦ let zero : get_or bytes place 0 ≡ 0 = get_or_past bytes place 0 past in omega (arith, zero)
-]
 
 half_below : (bytes : List ℕ) (place : ℕ) → All IsByte bytes → half_at bytes place < 2 ^ 32
 half_below bytes place all =

@@ -7,8 +7,8 @@ use Rattle.std.proofs.lemmas.Bool.Decides.{nat_tests}
 use Rattle.std.proofs.lemmas.List.Elements.{All-head, All-tail, All-weaker}
 use Rattle.std.proofs.lemmas.List.Sorted.{All-permutation}
 use Rattle.elf_raw.specs.declared.segment.RawSegment.{RawSegment}
-use Rattle.ae_lists.specs.Ordered.{put_in, ordered}
-use Rattle.ae_lists.proofs.Ordered.{ordered-IsPermutation}
+use Rattle.rv_code.specs.Ordered.{put_in, ordered}
+use Rattle.rv_code.proofs.LawsOfLists.{ordered-IsPermutation}
 use Rattle.elf_image.specs.Loads.{is_load, load_end, shares_byte}
 use Rattle.elf_image.proofs.GoodLoads.{IsGoodLoad, IsGoodLoads}
 

@@ -7,13 +7,13 @@ use Rattle.std.proofs.lemmas.Bool.Decides.{nat_tests}
 use Rattle.std.proofs.lemmas.List.{take_all}
 use Rattle.std.proofs.lemmas.List.Elements.{All-weaker, recursion_from_All}
 use Rattle.std.proofs.lemmas.List.Sorted.{list_any-IsPermutation, All-permutation}
-use Rattle.ae_lists.specs.Ordered.{rising}
-use Rattle.ae_lists.proofs.Ordered.{Climbs, Climbs-lower, Climbs-from_non_decreasing, is_rising}
+use Rattle.rv_code.specs.Ordered.{rising}
+use Rattle.rv_code.proofs.LawsOfLists.{Climbs, Climbs-lower, Climbs-from_non_decreasing, is_rising}
 use Rattle.rv_code.specs.declared.extent.Extent.{Extent}
 use Rattle.rv_code.specs.Code.{extent_end, is_word_of, is_code}
-use Rattle.rv_code.specs.Places.{code_addresses, IsRun, AreRuns, runs_of}
-use Rattle.rv_code.proofs.InOrder.{is_code-by_starts, by_starts-is_code, starts_aligned, is_code-Contains, Contains-is_code, code_addresses-IsStrictlyIncreasing, runs_of-code_addresses}
-use Rattle.elf_image.specs.Parts.{IsPart, touches, united, joined_from, joined_of}
+use Rattle.rv_code.specs.Places.{code_addresses, IsCodeExtent, AreCodeExtents, extents_at}
+use Rattle.rv_code.proofs.LawsOfPlaces.{is_code-by_starts, by_starts-is_code, starts_aligned, is_code-Contains, Contains-is_code, code_addresses-IsStrictlyIncreasing, extents_at-code_addresses}
+use Rattle.elf_image.specs.Inner.Parts.{IsPart, touches, united, joined_from, joined_of}
 
 abbrev start_of : Extent → ℕ
 start_of extent = extent.start
@@ -76,7 +76,7 @@ StartsAt start (extent ∷ extents) = extent.start ≡ start
 
 record IsJoined (extent : Extent) (parts extents : List Extent) : Type 0 where
   start : StartsAt extent.start extents
-  runs : AreRuns extents
+  runs : AreCodeExtents extents
   code : (address : ℕ) → is_code extents address ≡ is_code (extent ∷ parts) address
 
 put_in_front : (extent part : Extent) (parts extents : List Extent) → IsPart extent → extent_end extent < part.start → IsJoined part parts extents → IsJoined extent (part ∷ parts) (extent ∷ extents)
@@ -124,7 +124,7 @@ joined_from-IsJoined extent (part ∷ parts) is each climbs = elim (cases_Bool (
 
 -- joined parts are runs, with the code words of the parts
 record HasCodeOf (parts extents : List Extent) : Type 0 where
-  runs : AreRuns extents
+  runs : AreCodeExtents extents
   code : (address : ℕ) → is_code extents address ≡ is_code parts address
 
 joined_of-HasCodeOf : (parts : List Extent) → AllByRecursion IsPart parts → Climbs start_of 0 parts → HasCodeOf parts (joined_of parts)
@@ -134,13 +134,13 @@ joined_of-HasCodeOf (part ∷ parts) each climbs =
     record { runs = joined.runs; code = joined.code }
 
 -- the parts of sections, sorted and joined, are the runs of their words
-pub joined_of-runs_of : (parts sorted : List Extent) (words : List ℕ) → All IsPart parts → IsPermutation parts sorted → IsNonDecreasingBy (λ (part : Extent). part.start) sorted
-    → code_addresses parts ≡ words → joined_of sorted ≡ runs_of (rising words)
-joined_of-runs_of parts sorted words each moved order same =
+pub joined_of-extents_at : (parts sorted : List Extent) (words : List ℕ) → All IsPart parts → IsPermutation parts sorted → IsNonDecreasingBy (λ (part : Extent). part.start) sorted
+    → code_addresses parts ≡ words → joined_of sorted ≡ extents_at (rising words)
+joined_of-extents_at parts sorted words each moved order same =
     let sorted_each : AllByRecursion IsPart sorted = recursion_from_All IsPart sorted (All-permutation IsPart parts sorted moved each) in
     let climbs : Climbs start_of 0 sorted = Climbs-from_non_decreasing start_of 0 sorted (λ d some. omega arith) order in
     let joined : HasCodeOf sorted (joined_of sorted) = joined_of-HasCodeOf sorted sorted_each climbs in
-    let aligned = starts_aligned parts (recursion_from_All IsRun parts (All-weaker IsPart IsRun (λ extent is. is.run) parts each)) in
+    let aligned = starts_aligned parts (recursion_from_All IsCodeExtent parts (All-weaker IsPart IsCodeExtent (λ extent is. is.run) parts each)) in
     let code : (address : ℕ) → is_code (joined_of sorted) address ≡ is_code parts address =
     λ address. joined.code address ∙ sym (list_any-IsPermutation (λ extent. is_word_of extent address) parts sorted moved)
     in
@@ -153,7 +153,7 @@ joined_of-runs_of parts sorted words each moved order same =
     subst (λ xs. Contains xs address) same
     (is_code-by_starts parts address aligned (sym (code address) ∙ Contains-is_code (joined_of sorted) address joined.runs within)))
     in
-    sym (runs_of-code_addresses (joined_of sorted) joined.runs) ∙ ap runs_of addresses
+    sym (extents_at-code_addresses (joined_of sorted) joined.runs) ∙ ap extents_at addresses
 
 -- joining leaves no more extents than there were
 length-joined_from : (extent : Extent) (parts : List Extent) → length (joined_from extent parts) ≤ length parts + 1

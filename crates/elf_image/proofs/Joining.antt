@@ -5,7 +5,7 @@ use Rattle.std.specs.List.Sorted.{IsNonDecreasingBy}
 use Rattle.std.proofs.lemmas.List.{drop_more, get_or_default, drop_all}
 use Rattle.std.proofs.lemmas.List.Elements.{All-head, All-tail}
 use Rattle.rv_code.specs.declared.extent.Extent.{Extent}
-use Rattle.elf_image.specs.Parts.{IsPart, joined_from, joined_of}
+use Rattle.elf_image.specs.Inner.Parts.{IsPart, joined_from, joined_of}
 use Rattle.elf_image.proofs.Joined.{first_and_rest}
 
 abbrev start_of : Extent → ℕ

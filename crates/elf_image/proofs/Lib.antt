@@ -1,24 +1,25 @@
-pub mod WordsIn
-pub mod Joined
-pub mod Counted
-pub mod Joining
-pub mod Within
-pub mod CodeAt
-pub mod NameList
-pub mod Linked
-pub mod FirstPassing
-pub mod Naming
-pub mod EachNumber
-pub mod HeaderRows
-pub mod BadHere
-pub mod Found
-pub mod GoodLoads
-pub mod NoteKept
-pub mod InPlace
-pub mod RegionsKept
-pub mod CodeLoad
-pub mod Mapped
-pub mod CodeRefused
-pub mod ImageKept
-pub mod CodeKept
-pub mod LoadFound
+mod WordsIn
+mod Joined
+mod Counted
+mod Joining
+mod Within
+mod CodeAt
+mod NameList
+mod Linked
+mod FirstPassing
+mod Naming
+mod EachNumber
+mod HeaderRows
+mod BadHere
+mod Found
+mod GoodLoads
+mod NoteKept
+mod InPlace
+mod RegionsKept
+mod CodeLoad
+mod Mapped
+mod CodeRefused
+mod ImageKept
+mod CodeKept
+mod LoadFound
+mod NoteBack

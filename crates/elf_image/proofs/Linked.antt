@@ -1,5 +1,5 @@
 -- The sections of a file by their numbers, and the symbol tables that relocations link.
-use Rattle.std.proofs.Common.{◌≡◌, ℕ, ◌+◌, ◌*◌, ◌/◌, ◌<◌, ◌≤◌, true, false, ◌&&◌, eqb, ltb, List, length, get_or, refl, sym, ap, ◌∙◌, arith}
+use Rattle.std.proofs.Common.{◌≡◌, ℕ, ◌+◌, ◌*◌, ◌/◌, ◌<◌, ◌≤◌, true, false, ◌&&◌, eqb, ltb, List, length, get_or, sym, ap, ◌∙◌, arith}
 use Rattle.std.proofs.lemmas.Bool.{and_parts, lt-ltb, le-ltb, ltb-true, eqb-true}
 use Rattle.std.proofs.lemmas.Bool.Decides.{nat_tests}
 use Rattle.std.proofs.lemmas.List.FromFn.{get_or-map-range_with_len, length-map-range_with_len}
@@ -7,8 +7,7 @@ use Rattle.elf_raw.specs.declared.relocation.RawRelocation.{RawRelocation}
 use Rattle.elf_raw.specs.declared.section.RawSection.{RawSection}
 use Rattle.elf_raw.specs.Header.{header_of}
 use Rattle.elf_raw.specs.Refusal.{reaches_past, IsSound}
-use Rattle.elf_raw.specs.Sections.{section_of, sections_of}
-use Rattle.elf_raw.proofs.ReadSymbols.{symbols_readable}
+use Rattle.elf_raw.specs.Sections.{has_no_bytes, section_of, sections_of}
 use Rattle.elf_image.specs.Named.{linked, symbol_number, has_entry, has_symbol}
 
 pub section_count : (bytes : List ℕ) (sections : List RawSection) → sections ≡ sections_of bytes → length sections ≡ (header_of bytes).shnum
@@ -64,13 +63,11 @@ table_of bytes sections relocation d sound same own there =
     let parts = and_parts (ltb (linked bytes relocation) (header_of bytes).shnum) (has_entry (section_of bytes (linked bytes relocation)) (symbol_number relocation)) there in
     let below : linked bytes relocation < (header_of bytes).shnum = ltb-true (linked bytes relocation) (header_of bytes).shnum parts.0 in
     let entry = and_parts (eqb (section_of bytes (linked bytes relocation)).kind 2) (ltb (symbol_number relocation) ((section_of bytes (linked bytes relocation)).size / 16)) parts.1 in
-    let readable = symbols_readable bytes (header_of bytes) (linked bytes relocation) (section_of bytes (linked bytes relocation)) sound refl below refl
-    (eqb-true (section_of bytes (linked bytes relocation)).kind 2 entry.0)
-    in
+    let some = ap has_no_bytes (eqb-true (section_of bytes (linked bytes relocation)).kind 2 entry.0) in
     record {
       inside = omega (arith, is, below, section_count bytes sections same);
       is = is;
-      held = entry_within bytes (section_of bytes (linked bytes relocation)).offset (section_of bytes (linked bytes relocation)).size (relocation.info / 256) readable.whole
+      held = entry_within bytes (section_of bytes (linked bytes relocation)).offset (section_of bytes (linked bytes relocation)).size (relocation.info / 256) (sound.held (linked bytes relocation) below some)
           (ltb-true (symbol_number relocation) ((section_of bytes (linked bytes relocation)).size / 16) entry.1);
     }
 

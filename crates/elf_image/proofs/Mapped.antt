@@ -14,8 +14,9 @@ use Rattle.elf_raw.specs.Segments.{segments_of}
 use Rattle.rv_code.specs.declared.image.Region.{Region}
 use Rattle.rv_code.specs.Addresses.{tracer_start}
 use Rattle.rv_code.specs.Image.{region_length, mapped_length}
-use Rattle.ae_lists.proofs.Ordered.{ordered-IsPermutation}
-use Rattle.elf_image.specs.Loads.{is_load, has_note, is_mapped, loaded_length, bad_segment, region_of, regions_of}
+use Rattle.rv_code.proofs.LawsOfLists.{ordered-IsPermutation}
+use Rattle.elf_image.specs.Loads.{is_load, has_note, bad_program_header, region_of, regions_of}
+use Rattle.elf_image.specs.Inner.Loaded.{is_mapped_load, loaded_length}
 use Rattle.elf_image.proofs.RegionsKept.{whole_loads, region_length_is}
 
 -- a sum over those that pass a test
@@ -48,7 +49,7 @@ sum_of-filter p q f xs = is_sum_by (λ xs. sum_of q f (filter p xs)) (λ x. cond
       | inr fails ↦ rw fails (omega arith)
     ]
 
-pub mapped_length_is : (bytes : List ℕ) → IsSound bytes → bad_segment bytes ≡ None → mapped_length (regions_of bytes) ≡ loaded_length (segments_of bytes)
+pub mapped_length_is : (bytes : List ℕ) → IsSound bytes → bad_program_header bytes ≡ None → mapped_length (regions_of bytes) ≡ loaded_length (segments_of bytes)
 mapped_length_is bytes sound none =
     let loads = filter is_load (segments_of bytes) in
     let low : Region → Bool = λ region. nat_lt region.start tracer_start in
@@ -61,4 +62,4 @@ mapped_length_is bytes sound none =
     ∙ sums_agree (λ load. cond (low_load load) (region_length (region_of bytes load)) 0) (λ load. cond (low_load load) load.memsz 0) loads
     (λ k d inside. ap (λ n. cond (low_load (get_or loads k d)) n 0) (region_length_is bytes (has_note (segments_of bytes)) (get_or loads k d) (whole k d inside)))
     ∙ sum_of-filter is_load low_load (λ load. load.memsz) (segments_of bytes)
-    ∙ sym (sum-filter is_mapped (λ load. load.memsz) (segments_of bytes))
+    ∙ sym (sum-filter is_mapped_load (λ load. load.memsz) (segments_of bytes))

@@ -19,7 +19,7 @@ use Rattle.elf_raw.specs.Segments.{segment_of, segments_of}
 use Rattle.rv_code.specs.declared.image.Mark.{Mark}
 use Rattle.rv_code.specs.Image.{IsNote}
 use Rattle.rv_code.specs.Numbers.{IsByte, IsWord}
-use Rattle.elf_image.specs.Loads.{is_note_header, piece_of, has_note, before, bad_note_at, bad_segment, note_in}
+use Rattle.elf_image.specs.Loads.{is_note_header, piece_of, has_note, before, bad_note_at, bad_program_header, note_in}
 use Rattle.elf_image.specs.NoteBytes.{mark_count, mark_of, note_of, rises_at, is_aligned_at, marks_rise, is_note}
 use Rattle.elf_image.proofs.Found.{found, is_some-find}
 use Rattle.elf_image.proofs.GoodLoads.{IsGood, good, not_not}
@@ -60,7 +60,7 @@ note_within bytes segment sound is =
     All-contains (λ segment. reaches_past bytes segment.offset segment.filesz ≡ false) (segments_of bytes) segment (each_within bytes sound)
     (found is_note_header (segments_of bytes) segment is).0
 
-pub note_there : (bytes : List ℕ) (segment : RawSegment) → bad_segment bytes ≡ None → find is_note_header (segments_of bytes) ≡ Some segment
+pub note_there : (bytes : List ℕ) (segment : RawSegment) → bad_program_header bytes ≡ None → find is_note_header (segments_of bytes) ≡ Some segment
     → is_note (piece_of bytes segment) ≡ true
 note_there bytes segment none is =
     let there = found is_note_header (segments_of bytes) segment is in
@@ -76,7 +76,7 @@ is_some-note_in bytes =
     mapped f (Some x) = refl
 
 -- each index gives a byte, past the end 0
-byte_at : (bytes : List ℕ) (place : ℕ) → All IsByte bytes → IsByte (get_or bytes place 0)
+pub byte_at : (bytes : List ℕ) (place : ℕ) → All IsByte bytes → IsByte (get_or bytes place 0)
 byte_at bytes place all = elim (cases_lt place (length bytes)) [
   | inl within ↦ All-get_or IsByte bytes place 0 within all
   | inr past ↦ let zero : get_or bytes place 0 ≡ 0 = get_or_past bytes place 0 past in omega (arith, zero)
@@ -141,10 +141,10 @@ note_sound piece all is =
 pub piece_bytes : (bytes : List ℕ) (segment : RawSegment) → All IsByte bytes → All IsByte (piece_of bytes segment)
 piece_bytes bytes segment all = All-take IsByte segment.filesz (drop segment.offset bytes) (All-drop IsByte segment.offset bytes all)
 
-note_case : (bytes : List ℕ) (header : Option RawSegment) → All IsByte bytes → bad_segment bytes ≡ None → find is_note_header (segments_of bytes) ≡ header
+note_case : (bytes : List ℕ) (header : Option RawSegment) → All IsByte bytes → bad_program_header bytes ≡ None → find is_note_header (segments_of bytes) ≡ header
     → IfSome (option_map (λ segment. note_of (piece_of bytes segment)) header) IsNote
 note_case bytes None all none is = tt
 note_case bytes (Some segment) all none is = note_sound (piece_of bytes segment) (piece_bytes bytes segment all) (note_there bytes segment none is)
 
-pub note_in_sound : (bytes : List ℕ) → All IsByte bytes → bad_segment bytes ≡ None → IfSome (note_in bytes) IsNote
+pub note_in_sound : (bytes : List ℕ) → All IsByte bytes → bad_program_header bytes ≡ None → IfSome (note_in bytes) IsNote
 note_in_sound bytes all none = note_case bytes (find is_note_header (segments_of bytes)) all none refl

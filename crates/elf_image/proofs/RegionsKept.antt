@@ -18,9 +18,9 @@ use Rattle.rv_code.specs.Addresses.{stack_start, tracer_start}
 use Rattle.rv_code.specs.Image.{region_length, region_end, IsRegion, RegionsRise}
 use Rattle.rv_code.specs.Limits.{regions_limit}
 use Rattle.rv_code.specs.Numbers.{IsByte}
-use Rattle.ae_lists.specs.Ordered.{ordered}
-use Rattle.ae_lists.proofs.Ordered.{ordered-IsPermutation}
-use Rattle.elf_image.specs.Loads.{is_load, load_end, is_allowed, has_note, piece_of, bad_segment, region_of, regions_of, note_in}
+use Rattle.rv_code.specs.Ordered.{ordered}
+use Rattle.rv_code.proofs.LawsOfLists.{ordered-IsPermutation}
+use Rattle.elf_image.specs.Loads.{is_load, load_end, is_allowed, has_note, piece_of, bad_program_header, region_of, regions_of, note_in}
 use Rattle.elf_image.proofs.GoodLoads.{IsGoodLoad, good}
 use Rattle.elf_image.proofs.HeaderRows.{headers_read}
 use Rattle.elf_image.proofs.InPlace.{StandFrom, load_some, good-StandFrom, ordered-map}
@@ -70,7 +70,7 @@ loads_in bytes = ordered (λ (s : RawSegment). s.vaddr) (filter is_load (segment
 pub regions_from_loads : (bytes : List ℕ) → regions_of bytes ≡ map (region_of bytes) (loads_in bytes)
 regions_from_loads bytes = ordered-map (λ (region : Region). region.start) (region_of bytes) (filter is_load (segments_of bytes))
 
-pub whole_loads : (bytes : List ℕ) → IsSound bytes → bad_segment bytes ≡ None → All (IsWholeLoad bytes (has_note (segments_of bytes))) (filter is_load (segments_of bytes))
+pub whole_loads : (bytes : List ℕ) → IsSound bytes → bad_program_header bytes ≡ None → All (IsWholeLoad bytes (has_note (segments_of bytes))) (filter is_load (segments_of bytes))
 whole_loads bytes sound none k d inside =
     record {
       good = (good bytes none).loads.each k d inside;
@@ -78,19 +78,19 @@ whole_loads bytes sound none k d inside =
           All-filter is_load (λ segment. reaches_past bytes segment.offset segment.filesz ≡ false) (segments_of bytes) (each_within bytes sound) k d inside;
     }
 
-pub whole_loads_in : (bytes : List ℕ) → IsSound bytes → bad_segment bytes ≡ None → All (IsWholeLoad bytes (has_note (segments_of bytes))) (loads_in bytes)
+pub whole_loads_in : (bytes : List ℕ) → IsSound bytes → bad_program_header bytes ≡ None → All (IsWholeLoad bytes (has_note (segments_of bytes))) (loads_in bytes)
 whole_loads_in bytes sound none =
     All-permutation (IsWholeLoad bytes (has_note (segments_of bytes))) (filter is_load (segments_of bytes)) (loads_in bytes)
     (ordered-IsPermutation (λ (s : RawSegment). s.vaddr) (filter is_load (segments_of bytes))) (whole_loads bytes sound none)
 
-regions_each_noted : (bytes : List ℕ) → All IsByte bytes → IsSound bytes → bad_segment bytes ≡ None → All (IsRegion (has_note (segments_of bytes))) (regions_of bytes)
+regions_each_noted : (bytes : List ℕ) → All IsByte bytes → IsSound bytes → bad_program_header bytes ≡ None → All (IsRegion (has_note (segments_of bytes))) (regions_of bytes)
 regions_each_noted bytes all sound none =
     subst (All (IsRegion (has_note (segments_of bytes)))) (sym (regions_from_loads bytes))
     (All-map (IsRegion (has_note (segments_of bytes))) (region_of bytes) (loads_in bytes)
     (λ k d inside. region_kept bytes (has_note (segments_of bytes)) (get_or (loads_in bytes) k d) all (whole_loads_in bytes sound none k d inside)))
 
 -- each region is one that an image may have
-pub regions_each : (bytes : List ℕ) → All IsByte bytes → IsSound bytes → bad_segment bytes ≡ None → AllByRecursion (IsRegion (is_some (note_in bytes))) (regions_of bytes)
+pub regions_each : (bytes : List ℕ) → All IsByte bytes → IsSound bytes → bad_program_header bytes ≡ None → AllByRecursion (IsRegion (is_some (note_in bytes))) (regions_of bytes)
 regions_each bytes all sound none =
     recursion_from_All (IsRegion (is_some (note_in bytes))) (regions_of bytes)
     (subst (λ noted. All (IsRegion noted) (regions_of bytes)) (sym (is_some-note_in bytes)) (regions_each_noted bytes all sound none))
@@ -105,14 +105,14 @@ rise_from bytes noted low (one ∷ other ∷ loads) whole stand =
     )
 
 -- each ends at or before the start of the next
-pub regions_rise : (bytes : List ℕ) → IsSound bytes → bad_segment bytes ≡ None → RegionsRise (regions_of bytes)
+pub regions_rise : (bytes : List ℕ) → IsSound bytes → bad_program_header bytes ≡ None → RegionsRise (regions_of bytes)
 regions_rise bytes sound none =
     subst RegionsRise (sym (regions_from_loads bytes))
     (rise_from bytes (has_note (segments_of bytes)) 0 (loads_in bytes) (whole_loads_in bytes sound none)
     (good-StandFrom (has_note (segments_of bytes)) (filter is_load (segments_of bytes)) (good bytes none).loads))
 
 -- there aren't too many
-pub regions_few : (bytes : List ℕ) → bad_segment bytes ≡ None → length (regions_of bytes) ≤ regions_limit (is_some (note_in bytes))
+pub regions_few : (bytes : List ℕ) → bad_program_header bytes ≡ None → length (regions_of bytes) ≤ regions_limit (is_some (note_in bytes))
 regions_few bytes none =
     subst (λ noted. length (regions_of bytes) ≤ regions_limit noted) (sym (is_some-note_in bytes))
     (omega (

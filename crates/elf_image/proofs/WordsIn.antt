@@ -4,7 +4,7 @@ use Rattle.std.specs.List.{filter, range_with_len}
 use Rattle.std.proofs.lemmas.Bool.{cases_eq, cases_lt, eq-eqb, ne_eqb, le-leb, lt-leb}
 use Rattle.elf_raw.specs.declared.section.RawSection.{RawSection}
 use Rattle.rv_code.specs.Places.{words_of}
-use Rattle.rv_code.proofs.InOrder.{words_of-first}
+use Rattle.rv_code.proofs.LawsOfPlaces.{words_of-first}
 use Rattle.elf_image.specs.CodeWords.{words_in}
 
 -- a word stands there that ends at `end` or below

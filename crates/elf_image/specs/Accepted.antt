@@ -1,5 +1,6 @@
 -- Which files are accepted as executables, and the image of one that is.
 use Rattle.std.specs.Prelude.{◌≡◌, ℕ, ◌≤◌, List, length, None}
+use Rattle.elf_raw.specs.declared.limits.TheConstants.{FILE_LIMIT}
 use Rattle.elf_raw.specs.Header.{header_of}
 use Rattle.elf_raw.specs.Refusal.{elf_refusal}
 use Rattle.rv_code.specs.declared.image.Image.{Image}
@@ -10,7 +11,7 @@ use Rattle.elf_image.specs.Refusal.{image_refusal}
 
 -- the most bytes that a program's file may have
 abbrev pub file_limit : ℕ
-file_limit = 268435456
+file_limit = FILE_LIMIT
 
 abbrev pub image_of : List ℕ → Image
 image_of bytes =

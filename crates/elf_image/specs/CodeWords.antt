@@ -1,33 +1,24 @@
 -- Code words, and the functions that symbols name (System V ABI, chapter 4: SHF_ALLOC, SHF_EXECINSTR, SHT_NULL, SHT_NOBITS,
 -- STT_FUNC). Which words are code is this project's own: those of sections that the one executable segment holds.
-use Rattle.std.specs.Prelude.{◌≡◌, ℕ, ◌≤◌, ◌+◌, ◌-◌, ◌/◌, ◌%◌, ◌^◌, Bool, true, false, not, ◌&&◌, ◌==◌, List, map, nat_le}
+use Rattle.std.specs.Prelude.{ℕ, ◌+◌, ◌-◌, ◌/◌, ◌%◌, Bool, not, ◌&&◌, ◌==◌, List, map, nat_le}
 use Rattle.std.specs.List.{list_any, filter, flat_map, range_with_len, position_or_len}
-use Rattle.ae_lists.specs.Ordered.{rising}
+use Rattle.rv_code.specs.Ordered.{rising}
 use Rattle.elf_raw.specs.declared.section.RawSection.{RawSection}
 use Rattle.elf_raw.specs.declared.segment.RawSegment.{RawSegment}
 use Rattle.elf_raw.specs.declared.symbol.RawSymbol.{RawSymbol}
 use Rattle.elf_raw.specs.Numbers.{word_at}
-use Rattle.elf_raw.specs.Refusal.{reaches_past}
 use Rattle.elf_raw.specs.Sections.{has_no_bytes, sections_of}
 use Rattle.elf_raw.specs.Segments.{segment_of, segments_of}
 use Rattle.elf_raw.specs.Symbols.{symbols_of}
 use Rattle.rv_code.specs.declared.extent.Extent.{Extent}
 use Rattle.rv_code.specs.declared.image.Name.{Name}
 use Rattle.rv_code.specs.declared.image.Range.{Range}
-use Rattle.rv_code.specs.Places.{words_of, runs_of}
-use Rattle.elf_image.specs.Loads.{is_code_load, load_end}
+use Rattle.rv_code.specs.Places.{words_of, extents_at}
+use Rattle.elf_image.specs.Loads.{is_code_load}
 
 -- the program header that loads code, the first where there are more
 abbrev pub code_load : List ℕ → RawSegment
 code_load bytes = segment_of bytes (position_or_len is_code_load (segments_of bytes))
-
--- There is a program header that loads code, and it doesn't offend: it has no more bytes in the file than in memory, ends in
--- the address space, and its bytes stand in the file.
-pub record HasCodeLoad (bytes : List ℕ) : Type 0 where
-  pub there : list_any is_code_load (segments_of bytes) ≡ true
-  pub filled : (code_load bytes).filesz ≤ (code_load bytes).memsz
-  pub ends : load_end (code_load bytes) ≤ 2 ^ 32
-  pub held : reaches_past bytes (code_load bytes).offset (code_load bytes).filesz ≡ false
 
 -- the section's addresses lie within those of the program header's bytes in the file
 abbrev pub lies_in : RawSegment → RawSection → Bool
@@ -64,7 +55,7 @@ range_of bytes extent = record { start = extent.start; words = map (value_at byt
 
 -- words that touch are of one range
 abbrev pub extents_in : List ℕ → List Extent
-extents_in bytes = runs_of (code_words bytes)
+extents_in bytes = extents_at (code_words bytes)
 
 abbrev pub code_of : List ℕ → List Range
 code_of bytes = map (range_of bytes) (extents_in bytes)

@@ -4,4 +4,4 @@ pub mod CodeWords
 pub mod Named
 pub mod Refusal
 pub mod Accepted
-pub mod Parts
+pub mod Inner

@@ -1,9 +1,9 @@
 -- Program headers, and which of them offend (System V ABI, chapter 5, "Program Header"). Where segments may lie, how many
 -- there may be, that one alone may be executed, and the type of the note are this project's own.
-use Rattle.std.specs.Prelude.{ℕ, ◌+◌, ◌-◌, ◌/◌, ◌%◌, ◌^◌, Bool, not, ◌&&◌, ◌||◌, ◌==◌, List, map, length, sum, take, drop, nat_lt, nat_le, if◌then◌else◌, Option, Some}
+use Rattle.std.specs.Prelude.{ℕ, ◌+◌, ◌-◌, ◌/◌, ◌%◌, ◌^◌, Bool, not, ◌&&◌, ◌||◌, ◌==◌, List, map, length, take, drop, nat_lt, nat_le, if◌then◌else◌, Option, Some}
 use Rattle.std.specs.Option.{option_map, option_or}
 use Rattle.std.specs.List.{list_any, filter, find, range_with_len}
-use Rattle.ae_lists.specs.Ordered.{ordered}
+use Rattle.rv_code.specs.Ordered.{ordered}
 use Rattle.elf_raw.specs.declared.segment.RawSegment.{RawSegment}
 use Rattle.elf_raw.specs.Header.{header_of}
 use Rattle.elf_raw.specs.Segments.{segment_of, segments_of}
@@ -30,8 +30,8 @@ abbrev pub is_executable : RawSegment → Bool
 is_executable segment = segment.flags % 2 == 1
 
 -- PF_W
-abbrev pub is_writable : RawSegment → Bool
-is_writable segment = segment.flags / 2 % 2 == 1
+abbrev pub is_writable_load : RawSegment → Bool
+is_writable_load segment = segment.flags / 2 % 2 == 1
 
 abbrev pub is_code_load : RawSegment → Bool
 is_code_load segment = is_load segment && is_executable segment
@@ -97,8 +97,8 @@ code_or_note bytes = if list_any is_code_load (segments_of bytes) then bad_note 
 
 -- The number of the first program header that offends: of what is loaded; then their number, where no code is loaded; then
 -- of notes.
-abbrev pub bad_segment : List ℕ → Option ℕ
-bad_segment bytes = option_or (bad_load bytes) (code_or_note bytes)
+abbrev pub bad_program_header : List ℕ → Option ℕ
+bad_program_header bytes = option_or (bad_load bytes) (code_or_note bytes)
 
 -- what is loaded, zeros behind the bytes of the file
 abbrev pub region_of : List ℕ → RawSegment → Region
@@ -107,20 +107,12 @@ region_of bytes segment =
       start = segment.vaddr;
       bytes = piece_of bytes segment;
       zeros = segment.memsz - segment.filesz;
-      writable = is_writable segment;
+      writable = is_writable_load segment;
     }
 
 -- in the order of addresses
 abbrev pub regions_of : List ℕ → List Region
 regions_of bytes = ordered (λ (region : Region). region.start) (map (region_of bytes) (filter is_load (segments_of bytes)))
-
--- it is loaded, and begins below the tracer's
-abbrev pub is_mapped : RawSegment → Bool
-is_mapped segment = is_load segment && nat_lt segment.vaddr tracer_start
-
--- the bytes in memory that are mapped below the tracer's
-abbrev pub loaded_length : List RawSegment → ℕ
-loaded_length segments = sum (map (λ (segment : RawSegment). segment.memsz) (filter is_mapped segments))
 
 -- the note of a file that has one
 abbrev pub note_in : List ℕ → Option Note

@@ -2,7 +2,7 @@
 -- psABI's: R_RISCV_32, CALL, CALL_PLT, PCREL_HI20, HI20, ADD32, 32_PCREL). Which types are taken is this project's own.
 use Rattle.std.specs.Prelude.{ℕ, ◌+◌, ◌/◌, ◌%◌, Bool, not, ◌&&◌, ◌==◌, List, [], ◌∷◌, map, nat_lt, Option}
 use Rattle.std.specs.List.{list_any, filter, position}
-use Rattle.ae_lists.specs.Ordered.{rising}
+use Rattle.rv_code.specs.Ordered.{rising}
 use Rattle.elf_raw.specs.declared.relocation.RawRelocation.{RawRelocation}
 use Rattle.elf_raw.specs.declared.section.RawSection.{RawSection}
 use Rattle.elf_raw.specs.Header.{header_of}

@@ -1,16 +1,20 @@
 -- The note of a rewritten executable, as the bytes of its program header hold it: `AEN1`, six words (entry, first code
 -- address, number of code words, buffer, used, number of marks), and for each mark two words (from, original), the lowest
 -- byte first. This project's own.
-use Rattle.std.specs.Prelude.{ℕ, ◌+◌, ◌-◌, ◌*◌, ◌%◌, Bool, ◌&&◌, ◌==◌, List, [], ◌∷◌, map, length, take, nat_lt, nat_le}
-use Rattle.std.specs.List.{list_all, range_with_len}
+use Rattle.std.specs.Prelude.{ℕ, ◌+◌, ◌-◌, ◌*◌, ◌%◌, Bool, ◌&&◌, ◌==◌, List, [], ◌∷◌, ◌++◌, map, length, take, nat_lt, nat_le}
+use Rattle.std.specs.List.{list_all, flat_map, range_with_len}
 use Rattle.std.specs.Str.{bytes_eq}
 use Rattle.elf_raw.specs.Numbers.{word_at}
+use Rattle.elf_raw.specs.Written.{word_bytes}
 use Rattle.rv_code.specs.declared.image.Mark.{Mark}
 use Rattle.rv_code.specs.declared.image.Note.{Note}
 
 -- `AEN1`
+abbrev pub note_magic : List ℕ
+note_magic = 0x41 ∷ 0x45 ∷ 0x4e ∷ 0x31 ∷ []
+
 abbrev pub has_note_magic : List ℕ → Bool
-has_note_magic piece = bytes_eq (take 4 piece) (0x41 ∷ 0x45 ∷ 0x4e ∷ 0x31 ∷ [])
+has_note_magic piece = bytes_eq (take 4 piece) note_magic
 
 abbrev pub mark_count : List ℕ → ℕ
 mark_count piece = word_at piece 24
@@ -54,3 +58,15 @@ is_note piece =
     has_note_length piece && has_note_magic piece
     && (word_at piece 4 % 4 == 0) && (word_at piece 8 % 4 == 0)
     && marks_rise piece && originals_are_aligned piece
+
+-- the words of a mark, and of a note
+abbrev pub mark_words : Mark → List ℕ
+mark_words mark = mark.from ∷ mark.original ∷ []
+
+abbrev pub note_words : Note → List ℕ
+note_words note =
+    note.entry ∷ note.first ∷ note.count ∷ note.buffer ∷ note.used ∷ length note.map ∷ flat_map mark_words note.map
+
+-- the bytes that say a note
+abbrev pub note_bytes : Note → List ℕ
+note_bytes note = note_magic ++ word_bytes (note_words note)

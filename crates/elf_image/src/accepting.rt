@@ -1,14 +1,15 @@
 //! Accepting executables.
-ghost use Rattle.std.specs.Prelude.{◌≡◌, ◌≢◌, ℕ, ◌<◌, ◌≤◌, ◌^◌, List, length, None, Some, IfOk, IfErr, IsTrue, is_some};
+ghost use Rattle.std.specs.Prelude.{◌≡◌, ◌≢◌, ℕ, ◌<◌, ◌≤◌, ◌^◌, ⊤, List, length, None, Some, IfOk, IfErr, IfSome, IsTrue, MatchOption, is_some};
 ghost use Rattle.elf_raw.specs.Raw.{raw_of};
 ghost use Rattle.elf_raw.specs.Refusal.{IsSound};
-ghost use Rattle.rv_code.specs.Image.{IsImage};
+ghost use Rattle.elf_raw.specs.Tables.{AreTablesOf};
 ghost use Rattle.rv_code.specs.Limits.{words_limit};
 ghost use Rattle.rv_code.specs.Places.{code_addresses};
-ghost use Rattle.elf_image.specs.Accepted.{image_of};
+ghost use Rattle.elf_image.specs.Accepted.{IsAccepted, image_of};
 ghost use Rattle.elf_image.specs.CodeWords.{code_load, extents_in};
-ghost use Rattle.elf_image.specs.Loads.{bad_segment, has_note, loaded_length};
-ghost use Rattle.elf_image.specs.Refusal.{over_of, code_refusal, image_refusal};
+ghost use Rattle.elf_image.specs.Loads.{bad_program_header, has_note};
+ghost use Rattle.elf_image.specs.Inner.Loaded.{loaded_length};
+ghost use Rattle.elf_image.specs.Refusal.{over_of, code_refusal, image_refusal, IsAcceptFault};
 
 use crate::loads::{bad_segment, has_note, is_dynamic};
 use crate::names::names_of;
@@ -19,41 +20,49 @@ use crate::sections::{code_extents, is_code, word_count};
 use crate::words::{code_load, ranges_of};
 use crate::{ImageFault, Over};
 use elf_raw::{RawElf, RawSegment};
-use rv_code::{Extent, Image, ListOf};
+use rv_code::{Extent, Image, ListOf, MAPPED_LIMIT, NOTED_WORDS_LIMIT, RANGES_LIMIT, WORDS_LIMIT};
 use std::alloc::{AllocError, Global};
 
-/// The most bytes that may be mapped below the tracer's, the stack apart.
-const MAPPED_LIMIT: u64 = 134_217_728;
-
-/// The most ranges of code words.
-const RANGES_LIMIT: usize = 16;
-
-/// The most relocations that numbers tell apart. More take more than 64 GiB of memory.
-const RELOCATIONS_LIMIT: usize = 4_294_967_296;
-
 /// The most code words.
-fn words_limit(noted: bool) -> u64
+fn words_limit(noted: bool) -> u32
     ensures { result ≡ words_limit noted }
 {
-    if noted { 262_144 } else { 32_768 }
+    if noted {
+        NOTED_WORDS_LIMIT
+    } else {
+        WORDS_LIMIT
+    }
 }
 
 /// What a file with these program headers has too much of, if anything, where its code words stand at these extents.
 fn too_large(segments: &[RawSegment], extents: &[Extent]) -> Option<Over>
     requires segments { length segments.now < 2 ^ 32 }
     requires extents { length extents.now < 2 ^ 32 }
-    ensures { result ≡ over_of (has_note segments.now) (loaded_length segments.now) (length extents.now) (length (code_addresses extents.now)) }
+    ensures over { result ≡ over_of (has_note segments.now) (loaded_length segments.now) (length extents.now) (length (code_addresses extents.now)) }
+    ensures read { IfSome result (λ what. what ≢ Over.File) }
 {
-    if mapped_length(segments) > MAPPED_LIMIT {
+    if mapped_length(segments) > u64::from(MAPPED_LIMIT) {
         return Some(Over::Mapped);
     }
-    if extents.len() > RANGES_LIMIT {
+    if extents.len() > RANGES_LIMIT as usize {
         return Some(Over::Ranges);
     }
-    if word_count(extents) > words_limit(has_note(segments)) {
+    if word_count(extents) > u64::from(words_limit(has_note(segments))) {
         return Some(Over::Words);
     }
     None
+}
+
+/// The refusal of the relocation with this number. One with a number of more than 32 bits stands behind 64 GiB of others: the
+/// answer is then that memory is wanting.
+fn relocation_fault(number: usize) -> ImageFault
+    ensures numbered { number < 2 ^ 32 → result ≡ ImageFault.BadRelocation number }
+    ensures past { 2 ^ 32 ≤ number → result ≡ ImageFault.NoMemory }
+{
+    match u32::try_from(number) {
+        Ok(index) => ImageFault::BadRelocation { index },
+        Err(_) => ImageFault::NoMemory,
+    }
 }
 
 /// Why the file's code isn't accepted, if anything speaks against it. Its code words stand at these extents.
@@ -61,8 +70,8 @@ fn code_refusal(raw: &RawElf, extents: &[Extent]) -> Option<ImageFault>
     requires read { (bytes : List ℕ) × (raw.now ≡ raw_of bytes) }
     requires few { length extents.now < 2 ^ 32 }
     requires segments { length raw.now.segments < 2 ^ 32 }
-    requires relocations { length raw.now.relocations ≤ 2 ^ 32 }
-    ensures { (bytes : List ℕ) → raw.now ≡ raw_of bytes → IsSound bytes → bad_segment bytes ≡ None → extents.now ≡ extents_in bytes → result ≡ code_refusal bytes }
+    ensures first { (bytes : List ℕ) → raw.now ≡ raw_of bytes → IsSound bytes → bad_program_header bytes ≡ None → extents.now ≡ extents_in bytes → result ≢ Some ImageFault.NoMemory → result ≡ code_refusal bytes }
+    ensures own { MatchOption result ⊤ IsAcceptFault }
 {
     if extents.is_empty() {
         return Some(ImageFault::NoCode);
@@ -70,8 +79,8 @@ fn code_refusal(raw: &RawElf, extents: &[Extent]) -> Option<ImageFault>
     if !is_code(extents, raw.header.entry) {
         return Some(ImageFault::EntryNotCode);
     }
-    if let Some(index) = bad_relocation(raw) {
-        return Some(ImageFault::BadRelocation { index });
+    if let Some(number) = bad_relocation(raw) {
+        return Some(relocation_fault(number));
     }
     match too_large(raw.segments.as_slice(), extents) {
         Some(what) => Some(ImageFault::TooLarge { what }),
@@ -89,12 +98,11 @@ fn read_image(
 ) -> Result<Image, AllocError>
     requires read { raw.now ≡ raw_of bytes.now }
     requires sound { IsSound bytes.now }
-    requires good { bad_segment bytes.now ≡ None }
+    requires good { bad_program_header bytes.now ≡ None }
     requires load { load.now ≡ code_load bytes.now }
     requires extents { extents.now ≡ extents_in bytes.now }
     requires accepted { code_refusal bytes.now ≡ None }
-    ensures image { IfOk result (λ image. image ≡ image_of bytes.now) }
-    ensures whole { IfOk result IsImage }
+    ensures { IfOk result (λ image. image ≡ image_of bytes.now) }
 {
     let regions = regions_of(alloc, raw, bytes)?;
     let code = ranges_of(alloc, bytes, load, extents)?;
@@ -115,15 +123,12 @@ fn read_image(
 fn accept_code(alloc: Global, raw: &RawElf, bytes: &[u8]) -> Result<Image, ImageFault>
     requires read { raw.now ≡ raw_of bytes.now }
     requires sound { IsSound bytes.now }
-    requires good { bad_segment bytes.now ≡ None }
+    requires good { bad_program_header bytes.now ≡ None }
     ensures image { IfOk result (λ image. image ≡ image_of bytes.now) }
     ensures accepted { IfOk result (λ _. code_refusal bytes.now ≡ None) }
-    ensures whole { IfOk result IsImage }
     ensures refused { IfErr result (λ fault. fault ≢ ImageFault.NoMemory → code_refusal bytes.now ≡ Some fault) }
+    ensures own { IfErr result IsAcceptFault }
 {
-    if raw.relocations.as_slice().len() > RELOCATIONS_LIMIT {
-        return Err(ImageFault::NoMemory);
-    }
     let load = code_load(raw.segments.as_slice());
     let Ok(extents) = code_extents(alloc, load, raw.sections.as_slice()) else {
         return Err(ImageFault::NoMemory);
@@ -137,19 +142,16 @@ fn accept_code(alloc: Global, raw: &RawElf, bytes: &[u8]) -> Result<Image, Image
     }
 }
 
-/// The image of an executable of at most 268,435,456 bytes, whose tables these are.
+/// The image of an executable whose tables these are.
 ///
 /// # Errors
 ///
 /// The first refusal that holds, in the order of [`ImageFault`]; or memory was wanting.
 pub fn accept(alloc: Global, raw: &RawElf, bytes: &[u8]) -> Result<Image, ImageFault>
-    requires read { raw.now ≡ raw_of bytes.now }
-    requires sound { IsSound bytes.now }
-    requires small { length bytes.now ≤ 268435456 }
-    ensures image { IfOk result (λ image. image ≡ image_of bytes.now) }
-    ensures accepted { IfOk result (λ _. image_refusal bytes.now ≡ None) }
-    ensures whole { IfOk result IsImage }
+    requires { AreTablesOf raw.now bytes.now }
+    ensures accepted { IfOk result (IsAccepted bytes.now) }
     ensures refused { IfErr result (λ fault. fault ≢ ImageFault.NoMemory → image_refusal bytes.now ≡ Some fault) }
+    ensures own { IfErr result IsAcceptFault }
 {
     if is_dynamic(raw.segments.as_slice()) {
         return Err(ImageFault::Dynamic);

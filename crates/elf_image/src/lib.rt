@@ -5,15 +5,17 @@
 
 mod accepting;
 mod fault;
+mod laws;
 mod loads;
 mod names;
 mod note;
+mod note_writing;
 mod regions;
 mod relocations;
 mod sections;
-#[cfg(test)]
-mod tests;
 mod words;
 
 pub use accepting::{accept, for_rewrite};
 pub use fault::{ImageFault, Over};
+pub use laws::accepted_files_have_images;
+pub use note_writing::note_bytes;

@@ -5,25 +5,15 @@ ghost use Rattle.elf_raw.specs.Raw.{raw_of};
 ghost use Rattle.elf_raw.specs.Refusal.{IsSound, reaches_past};
 ghost use Rattle.rv_code.specs.Limits.{regions_limit};
 ghost use Rattle.elf_image.specs.NoteBytes.{is_note};
-ghost use Rattle.elf_image.specs.Loads.{is_load, is_dynamic, is_note_header, is_executable, is_writable, is_code_load, piece_of, has_note, load_end, is_allowed, shares_byte, load_offends, bad_note, bad_segment};
+ghost use Rattle.elf_image.specs.Loads.{is_load, is_dynamic, is_note_header, is_executable, is_writable_load, is_code_load, piece_of, has_note, load_end, is_allowed, shares_byte, load_offends, bad_note, bad_program_header};
 
 use crate::note::is_note;
 use elf_raw::{RawElf, RawSegment};
+use rv_code::{NOTED_REGIONS_LIMIT, REGIONS_LIMIT, STACK_START, TRACER_START};
 use std::alloc::{AllocError, Global};
-
-/// The stack's first byte.
-const STACK_START: u64 = 0x7ff0_0000;
-
-/// The first byte of what belongs to the tracer.
-pub const TRACER_START: u32 = 0xc000_0000;
 
 /// The first number that is no address.
 const ADDRESSES_END: u64 = 0x1_0000_0000;
-
-/// How many program headers a file may load, without a note and with one.
-const LOADS_LIMIT: usize = 1024;
-
-const NOTED_LOADS_LIMIT: usize = 1032;
 
 /// Whether a program header of type PT_DYNAMIC or PT_INTERP is there.
 pub fn is_dynamic(segments: &[RawSegment]) -> bool
@@ -64,7 +54,7 @@ pub fn is_executable(segment: &RawSegment) -> bool
 
 /// Whether it may be written (PF_W).
 pub fn is_writable(segment: &RawSegment) -> bool
-    ensures { result ≡ is_writable segment.now }
+    ensures { result ≡ is_writable_load segment.now }
 {
     segment.flags / 2 % 2 == 1
 }
@@ -91,7 +81,7 @@ fn load_end(segment: &RawSegment) -> u64
 fn is_allowed(noted: bool, segment: &RawSegment) -> bool
     ensures { result ≡ is_allowed noted segment.now }
 {
-    load_end(segment) <= STACK_START
+    load_end(segment) <= u64::from(STACK_START)
         || (noted && TRACER_START <= segment.vaddr && load_end(segment) <= ADDRESSES_END)
 }
 
@@ -103,13 +93,13 @@ fn shares_byte(one: &RawSegment, other: &RawSegment) -> bool
 }
 
 /// How many program headers a file may load.
-fn loads_limit(noted: bool) -> usize
+fn loads_limit(noted: bool) -> u32
     ensures { result ≡ regions_limit noted }
 {
     if noted {
-        NOTED_LOADS_LIMIT
+        NOTED_REGIONS_LIMIT
     } else {
-        LOADS_LIMIT
+        REGIONS_LIMIT
     }
 }
 
@@ -135,7 +125,7 @@ fn load_offends(noted: bool, earlier: &[RawSegment], segment: &RawSegment) -> bo
         || !is_allowed(noted, segment)
         || shares_earlier(earlier, segment)
         || (is_executable(segment) && has_executable(earlier))
-        || loads_limit(noted) <= earlier.len()
+        || loads_limit(noted) as usize <= earlier.len()
 }
 
 /// Whether it is loaded, and offends behind the earlier ones that are.
@@ -195,7 +185,7 @@ fn loads_code(segments: &[RawSegment]) -> bool
 pub fn bad_segment(alloc: Global, raw: &RawElf, bytes: &[u8]) -> Result<Option<u32>, AllocError>
     requires read { raw.now ≡ raw_of bytes.now }
     requires sound { IsSound bytes.now }
-    ensures { IfOk result (λ index. index ≡ bad_segment bytes.now) }
+    ensures { IfOk result (λ index. index ≡ bad_program_header bytes.now) }
 {
     let segments = raw.segments.as_slice();
     let noted = has_note(segments);

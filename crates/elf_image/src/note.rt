@@ -5,7 +5,7 @@ ghost use Rattle.std.specs.Option.{option_copied};
 ghost use Rattle.elf_raw.specs.Raw.{raw_of};
 ghost use Rattle.elf_raw.specs.Refusal.{IsSound};
 ghost use Rattle.rv_code.specs.Image.{IsNote};
-ghost use Rattle.elf_image.specs.Loads.{is_note_header, bad_segment, note_in};
+ghost use Rattle.elf_image.specs.Loads.{is_note_header, bad_program_header, note_in};
 ghost use Rattle.elf_image.specs.NoteBytes.{has_note_magic, has_note_length, mark_count, mark_of, rises_at, marks_rise, is_aligned_at, originals_are_aligned, is_note, note_of};
 
 use crate::loads::{is_note_header, piece_of};
@@ -142,7 +142,7 @@ fn note_header(segments: &[RawSegment]) -> Option<&RawSegment>
 pub fn note_in(alloc: Global, raw: &RawElf, bytes: &[u8]) -> Result<Option<Note>, AllocError>
     requires read { raw.now ≡ raw_of bytes.now }
     requires sound { IsSound bytes.now }
-    requires good { bad_segment bytes.now ≡ None }
+    requires good { bad_program_header bytes.now ≡ None }
     ensures same { IfOk result (λ note. note ≡ note_in bytes.now) }
     ensures sound { IfOk result (λ note. IfSome note IsNote) }
 {

@@ -1,16 +1,17 @@
 //! What a file puts into memory, in the order of addresses.
 ghost use Rattle.std.specs.Prelude.{◌≡◌, ◌≢◌, ◌≤◌, ◌<◌, ◌^◌, All, AllPairs, false, filter, is_some, map, None, IfOk, length};
 ghost use Rattle.std.specs.List.{AllByRecursion};
-ghost use Rattle.ae_lists.specs.Ordered.{ordered};
+ghost use Rattle.rv_code.specs.Ordered.{ordered};
 ghost use Rattle.elf_raw.specs.Raw.{raw_of};
 ghost use Rattle.elf_raw.specs.Refusal.{IsSound, reaches_past};
 ghost use Rattle.rv_code.specs.Image.{IsRegion, RegionsRise};
 ghost use Rattle.rv_code.specs.Limits.{regions_limit};
-ghost use Rattle.elf_image.specs.Loads.{is_load, bad_segment, region_of, regions_of, loaded_length, note_in};
+ghost use Rattle.elf_image.specs.Loads.{is_load, bad_program_header, region_of, regions_of, note_in};
+ghost use Rattle.elf_image.specs.Inner.Loaded.{loaded_length};
 
-use crate::loads::{TRACER_START, is_load, is_writable, piece_of};
+use crate::loads::{is_load, is_writable, piece_of};
 use elf_raw::{RawElf, RawSegment};
-use rv_code::{ListOf, Region};
+use rv_code::{ListOf, Region, TRACER_START};
 use std::alloc::{AllocError, Global};
 
 /// The program headers that are loaded, in their order.
@@ -71,7 +72,7 @@ fn read_regions(
 pub fn regions_of(alloc: Global, raw: &RawElf, bytes: &[u8]) -> Result<Vec<Region>, AllocError>
     requires read { raw.now ≡ raw_of bytes.now }
     requires sound { IsSound bytes.now }
-    requires good { bad_segment bytes.now ≡ None }
+    requires good { bad_program_header bytes.now ≡ None }
     ensures same { IfOk result (λ regions. regions.items ≡ regions_of bytes.now) }
     ensures each { IfOk result (λ regions.
         AllByRecursion (IsRegion (is_some (note_in bytes.now))) regions.items) }

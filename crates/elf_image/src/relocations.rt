@@ -80,8 +80,7 @@ fn address_named(bytes: &[u8], sections: &[RawSection], relocation: &RawRelocati
 /// The number of the first relocation that names a symbol that isn't there.
 fn first_bad(sections: &[RawSection], relocations: &[RawRelocation]) -> Option<usize>
     requires { All (λ relocation. relocation.section < length sections.now) relocations.now }
-    ensures first { (bytes : List ℕ) → sections.now ≡ sections_of bytes → result ≡ position (names_nothing bytes) relocations.now }
-    ensures within { IfSome result (λ number. number < length relocations.now) }
+    ensures { (bytes : List ℕ) → sections.now ≡ sections_of bytes → result ≡ position (names_nothing bytes) relocations.now }
 {
     for (number, relocation) in relocations.iter().enumerate() {
         if names_nothing(sections, relocation) {
@@ -93,13 +92,11 @@ fn first_bad(sections: &[RawSection], relocations: &[RawRelocation]) -> Option<u
 
 /// The number of the first relocation that should name an address, and whose symbol isn't there, or whose own section
 /// links no symbol table; counted from 0 over all tables. `raw` is what the tables of a file say.
-pub fn bad_relocation(raw: &RawElf) -> Option<u32>
-    requires read { (bytes : List ℕ) × (raw.now ≡ raw_of bytes) }
-    requires few { length raw.now.relocations ≤ 2 ^ 32 }
+pub fn bad_relocation(raw: &RawElf) -> Option<usize>
+    requires { (bytes : List ℕ) × (raw.now ≡ raw_of bytes) }
     ensures { (bytes : List ℕ) → raw.now ≡ raw_of bytes → result ≡ bad_relocation bytes }
 {
-    let number = first_bad(raw.sections.as_slice(), raw.relocations.as_slice())?;
-    Some(number as u32)
+    first_bad(raw.sections.as_slice(), raw.relocations.as_slice())
 }
 
 /// Adds the address that a relocation names, if it is of a type that names one, and a code word stands there.

@@ -3,9 +3,9 @@ ghost use Rattle.std.specs.Prelude.{◌≡◌, ◌+◌, ◌^◌, ◌<◌, ◌≤
 ghost use Rattle.std.specs.List.{All, filter, flat_map};
 ghost use Rattle.std.specs.List.Sorted.{IsNonDecreasingBy};
 ghost use Rattle.rv_code.specs.Code.{is_code};
-ghost use Rattle.rv_code.specs.Places.{words_of, code_addresses, runs_of};
+ghost use Rattle.rv_code.specs.Places.{words_of, code_addresses, extents_at};
 ghost use Rattle.elf_image.specs.CodeWords.{lies_in, is_code_section, words_in, words_by};
-ghost use Rattle.elf_image.specs.Parts.{IsPart, touches, united, joined_from, joined_of};
+ghost use Rattle.elf_image.specs.Inner.Parts.{IsPart, touches, united, joined_from, joined_of};
 
 use elf_raw::{RawSection, RawSegment, has_no_bytes};
 use rv_code::Extent;
@@ -151,7 +151,7 @@ pub fn code_extents(
     sections: &[RawSection],
 ) -> Result<Vec<Extent>, AllocError>
     requires { load.now.vaddr + load.now.filesz ≤ 2 ^ 32 }
-    ensures words { IfOk result (λ extents. extents.items ≡ runs_of (words_by load.now sections.now)) }
+    ensures words { IfOk result (λ extents. extents.items ≡ extents_at (words_by load.now sections.now)) }
     ensures few { IfOk result (λ extents. length extents.items ≤ length sections.now) }
 {
     let mut parts = parts_of(alloc, load, sections)?;

@@ -3,7 +3,8 @@ ghost use Rattle.std.specs.Prelude.{◌≡◌, ℕ, ◌+◌, ◌≤◌, List, If
 ghost use Rattle.std.specs.List.{find, list_any};
 ghost use Rattle.elf_raw.specs.Segments.{segments_of};
 ghost use Rattle.rv_code.specs.Code.{extent_end};
-ghost use Rattle.elf_image.specs.CodeWords.{HasCodeLoad, code_load, value_at, range_of, extents_in, code_of};
+ghost use Rattle.elf_image.specs.CodeWords.{code_load, value_at, range_of, extents_in, code_of};
+ghost use Rattle.elf_image.specs.Inner.Loaded.{HasCodeLoad};
 ghost use Rattle.elf_image.specs.Loads.{is_code_load};
 
 use crate::loads::{is_executable, is_load};

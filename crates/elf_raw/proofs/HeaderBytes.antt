@@ -71,10 +71,10 @@ in_two header =
     append_assoc (header.ident ++ first_halves header) (middle_words header) (last_halves header)
     ∙ append_assoc header.ident (first_halves header) (middle_words header ++ last_halves header)
 
-half_back : (x : ℕ) → x < 2 ^ 16 → little_from 0 2 (little_bytes 2 x) ≡ x
+pub half_back : (x : ℕ) → x < 2 ^ 16 → little_from 0 2 (little_bytes 2 x) ≡ x
 half_back x fits = little_number-reads_back 2 x [] fits
 
-word_back : (x : ℕ) → x < 2 ^ 32 → little_from 0 4 (little_bytes 4 x) ≡ x
+pub word_back : (x : ℕ) → x < 2 ^ 32 → little_from 0 4 (little_bytes 4 x) ≡ x
 word_back x fits = little_number-reads_back 4 x [] fits
 
 module _ (header : RawHeader) (fits : IsInRange header) where

@@ -1,22 +1,21 @@
-pub mod FirstBad
-pub mod Sound
-pub mod Rows
-pub mod NextZero
-pub mod ZeroIndex
-pub mod NamePlace
-pub mod OneMore
-pub mod ReadSymbols
-pub mod Laid
-pub mod Placed
-pub mod HeaderBytes
-pub mod RowBytes
-pub mod Ends
-pub mod Kept
-pub mod RowsAt
-pub mod SameSections
-pub mod Taken
-pub mod ReadBack
-pub mod WrittenFile
-pub mod Shown
-pub mod ThreeWords
-pub mod TablesFile
+mod Sound
+mod NextZero
+mod ZeroIndex
+mod NamePlace
+mod Misfits
+mod Laid
+mod Placed
+mod HeaderBytes
+mod RowBytes
+mod Ends
+mod Kept
+mod RowsAt
+mod SameSections
+mod Taken
+mod ReadBack
+mod EntriesBack
+mod WordsBack
+mod WrittenFile
+mod Shown
+mod ThreeWords
+mod TablesFile

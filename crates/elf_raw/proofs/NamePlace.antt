@@ -3,7 +3,7 @@ use Rattle.std.proofs.Common.{◌≡◌, ℕ, ◌+◌, ◌-◌, ◌<◌, ◌≤�
 use Rattle.std.proofs.lemmas.List.{drop-drop, drop-take, take-take}
 use Rattle.elf_raw.specs.declared.section.RawSection.{RawSection}
 use Rattle.elf_raw.specs.Names.{before_zero, or_empty, name_in}
-use Rattle.elf_raw.specs.Zeros.{zero_place, next_zero}
+use Rattle.elf_raw.specs.Inner.Zeros.{zero_place, next_zero}
 use Rattle.elf_raw.proofs.NextZero.{place_in_take, named, unnamed}
 
 -- what is left of a string table behind a place

@@ -6,7 +6,7 @@ use Rattle.std.proofs.lemmas.List.{drop-drop}
 use Rattle.std.specs.Option.{option_map}
 use Rattle.std.specs.Prelude.{◌==◌}
 use Rattle.elf_raw.specs.Names.{before_zero, or_empty}
-use Rattle.elf_raw.specs.Zeros.{zero_place, next_zero}
+use Rattle.elf_raw.specs.Inner.Zeros.{zero_place, next_zero}
 
 -- a byte that isn't zero
 other : (byte : ℕ) → (suc byte == 0) ≡ false

@@ -8,7 +8,7 @@ use Rattle.elf_raw.specs.Refusal.{passes, symbols_misfit, relocations_offend, se
 use Rattle.elf_raw.specs.Relocations.{relocations_in, relocations_of_section, relocations_among}
 use Rattle.elf_raw.specs.Sections.{has_no_bytes}
 use Rattle.elf_raw.specs.Symbols.{symbol_at, symbols_in, symbols_of_section, symbols_among}
-use Rattle.elf_raw.proofs.ReadSymbols.{second_fails, symbols_linked}
+use Rattle.elf_raw.proofs.Misfits.{second_fails, symbols_linked}
 
 same_when : {X : Type 0} (b : Bool) (x y z : X) → (b ≡ true → x ≡ y) → cond b x z ≡ cond b y z
 same_when true x y z same = same refl

@@ -4,13 +4,13 @@ use Rattle.std.proofs.lemmas.Bool.{cond-false, le-ltb, eq-eqb, and_right}
 use Rattle.std.proofs.lemmas.Bool.Decides.{nat_tests}
 use Rattle.std.proofs.lemmas.List.{take-take, get_or-take}
 use Rattle.std.specs.List.{find, range_with_len}
-use Rattle.std.specs.Option.{option_map}
+use Rattle.std.specs.Option.{option_map, option_or}
 use Rattle.std.specs.Prelude.{not, nat_lt, ◌&&◌, ◌||◌, ◌==◌, slice_index}
 use Rattle.elf_raw.specs.declared.fault.ElfFault.TheVariants.{BadTable}
 use Rattle.elf_raw.specs.declared.header.RawHeader.{RawHeader}
 use Rattle.elf_raw.specs.Header.{header_of}
 use Rattle.std.specs.Str.{bytes_eq}
-use Rattle.elf_raw.specs.Refusal.{magic, passes, has_magic, segment_offends, section_offends, first_of, bad_segment, bad_section, bad_table, flag, table_refusal, elf_refusal}
+use Rattle.elf_raw.specs.Refusal.{magic, passes, has_magic, segment_offends, section_offends, bad_segment, bad_section, bad_table, flag, table_refusal, elf_refusal}
 use Rattle.elf_raw.specs.Segments.{segment_offset}
 use Rattle.elf_raw.specs.Sections.{section_offset}
 use Rattle.elf_raw.specs.declared.raw.RawElf.{RawElf}
@@ -49,9 +49,9 @@ some_sized (suc count) size want sized = and_right (not (suc count == 0)) (not (
 flag_clear : (flags bit : ℕ) → flags / bit % 2 ≡ 0 → (flags / bit % 2 == 1) ≡ false
 flag_clear flags bit clear = ap (λ n. n == 1) clear
 
-none_first : (one other : Option ℕ) → one ≡ None → other ≡ None → first_of one other ≡ None
-none_first None other one two = two
-none_first (Some x) other one two = absurd (cc one)
+none_of_both : (one other : Option ℕ) → one ≡ None → other ≡ None → option_or one other ≡ None
+none_of_both None other one two = two
+none_of_both (Some x) other one two = absurd (cc one)
 
 -- the file's fields are those of the header
 module _ (bytes : List ℕ) (header : RawHeader) (same : header_of bytes ≡ header) where
@@ -80,7 +80,7 @@ module _ (bytes : List ℕ) (raw : RawElf) (same : header_of bytes ≡ raw.heade
       ∙ cond-false _ _ _ ((λ i. passes (length bytes) (phoff i) (32 * phnum i)) ∙ not_past (length bytes) raw.header.phoff (32 * raw.header.phnum) segments_end)
       ∙ cond-false _ _ _ ((λ i. not (shnum i == 0) && not ((same i).shentsize == 40)) ∙ some_sized raw.header.shnum raw.header.shentsize 40 is.shentsize)
       ∙ cond-false _ _ _ ((λ i. passes (length bytes) (shoff i) (40 * shnum i)) ∙ not_past (length bytes) raw.header.shoff (40 * raw.header.shnum) sections_end)
-      ∙ none_first (bad_segment bytes) (bad_section bytes) no_segment no_section
+      ∙ none_of_both (bad_segment bytes) (bad_section bytes) no_segment no_section
 
   flags_clear : (bit : ℕ) → raw.header.flags / bit % 2 ≡ 0 → flag bytes bit ≡ false
   flags_clear bit clear = ap (λ (h : RawHeader). h.flags / bit % 2 == 1) same ∙ flag_clear raw.header.flags bit clear

@@ -5,6 +5,7 @@ use Rattle.std.specs.List.{All, AllPairs, flat_map, fold}
 use Rattle.elf_raw.specs.declared.piece.Piece.{Piece}
 use Rattle.elf_raw.specs.declared.raw.RawElf.{RawElf}
 use Rattle.elf_raw.specs.Raw.{raw_of}
+use Rattle.elf_raw.specs.Tables.{AreTablesOf}
 use Rattle.elf_raw.specs.Refusal.{elf_refusal}
 use Rattle.elf_raw.specs.Writable.{IsCounted, IsApart, IsWritable, IsTaken}
 use Rattle.elf_raw.specs.Written.{header_bytes, segment_bytes, section_bytes, parts_of, end_of, file_end, lay, file_of}
@@ -13,6 +14,7 @@ use Rattle.elf_raw.proofs.Kept.{EndsWithin, part_at, length_all}
 use Rattle.elf_raw.proofs.Laid.{rows_length}
 use Rattle.elf_raw.proofs.Placed.{IsAt}
 use Rattle.elf_raw.proofs.ReadBack.{IsBack, HasTables, read_back, not_refused}
+use Rattle.elf_raw.proofs.Sound.{sound}
 use Rattle.elf_raw.proofs.RowBytes.{segment_bytes_length, section_bytes_length}
 
 -- where the parts end
@@ -101,15 +103,25 @@ module _ (raw : RawElf) (pieces : List Piece) where
       taken : IsTaken raw (length (file_of raw pieces))
       taken = subst (IsTaken raw) (sym file_length) writable.taken
 
-      pub file_read_back : raw_of (file_of raw pieces) ≡ raw
+      file_read_back : raw_of (file_of raw pieces) ≡ raw
       file_read_back = read_back (file_of raw pieces) raw (file_tables writable.placed.apart back.size) back writable.counted writable.held taken
 
-      pub file_not_refused : elf_refusal (file_of raw pieces) ≡ None
+      file_not_refused : elf_refusal (file_of raw pieces) ≡ None
       file_not_refused =
           let fit : Fits raw pieces (length (file_of raw pieces)) = fits raw pieces (length (file_of raw pieces)) file_length back.size in
           not_refused (file_of raw pieces) raw (file_tables writable.placed.apart back.size) back writable.counted writable.held taken
           (subst (λ n. end_of raw.header.phoff (32 * n) ≤ length (file_of raw pieces)) (sym writable.counted.segments) fit.segments)
           (subst (λ n. end_of raw.header.shoff (40 * n) ≤ length (file_of raw pieces)) (sym writable.counted.sections) fit.sections)
+
+      -- what was written is read as it
+      pub file_read : AreTablesOf raw (file_of raw pieces)
+      file_read =
+          record {
+            small = omega (arith, file_length, writable.placed.end);
+            same = sym file_read_back;
+            taken = file_not_refused;
+            sound = sound (file_of raw pieces) file_not_refused;
+          }
 
 -- where the tables end, by the header's counts
 pub tables_end_is : (raw : RawElf) → IsCounted raw → length (header_bytes raw.header) ≡ 52

@@ -1,7 +1,7 @@
 -- What the index of the zeros says.
 use Rattle.std.proofs.Common.{◌≡◌, ℕ, ◌+◌, ◌-◌, ◌*◌, ◌/◌, ◌<◌, ◌≤◌, List, length, take, drop, get_or, ap, ◌∙◌, arith}
 use Rattle.std.proofs.lemmas.List.FromFn.{length-map-range_with_len, get_or-map-range_with_len}
-use Rattle.elf_raw.specs.Zeros.{zero_place, next_zero, zero_of_block, zeros_of}
+use Rattle.elf_raw.specs.Inner.Zeros.{zero_place, next_zero, zero_of_block, zeros_of}
 use Rattle.elf_raw.proofs.NextZero.{place_in_take, next_from}
 
 pub index_length : (index bytes : List ℕ) → index ≡ zeros_of bytes → length index ≡ length bytes / 64 + 1

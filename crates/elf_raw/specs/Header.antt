@@ -1,10 +1,11 @@
 -- The ELF header, at the front of a file (System V ABI, chapter 4, "ELF Header": Elf32_Ehdr).
 use Rattle.std.specs.Prelude.{ℕ, List, take}
 use Rattle.elf_raw.specs.declared.header.RawHeader.{RawHeader}
+use Rattle.elf_raw.specs.declared.header.TheConstants.{HEADER_SIZE}
 use Rattle.elf_raw.specs.Numbers.{half_at, word_at}
 
 abbrev pub header_size : ℕ
-header_size = 52
+header_size = HEADER_SIZE
 
 abbrev pub header_of : List ℕ → RawHeader
 header_of bytes =

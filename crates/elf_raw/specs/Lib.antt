@@ -2,11 +2,13 @@ pub mod Numbers
 pub mod Header
 pub mod Segments
 pub mod Sections
-pub mod Zeros
 pub mod Names
 pub mod Symbols
 pub mod Relocations
 pub mod Raw
 pub mod Refusal
+pub mod Tables
 pub mod Written
 pub mod Writable
+pub mod Entries
+pub mod Inner

@@ -1,9 +1,9 @@
 -- Which files aren't taken for a static executable of RV32 without compressed instructions and floating point registers in
 -- calls: the first refusal that holds, in this order. What the fields mean is the System V ABI's, the machine's number and
 -- flags are the RISC-V psABI's; the refusals and their order are this project's own.
-use Rattle.std.specs.Prelude.{◌≡◌, ℕ, ◌<◌, ◌≤◌, false, ◌+◌, ◌*◌, ◌/◌, ◌%◌, Bool, not, ◌&&◌, ◌||◌, ◌==◌, List, [], ◌∷◌, length, take, nat_lt, if◌then◌else◌, Option, None, Some, slice_index}
+use Rattle.std.specs.Prelude.{◌≡◌, ℕ, ◌<◌, ◌≤◌, false, ◌+◌, ◌*◌, ◌/◌, ◌%◌, Bool, not, ◌&&◌, ◌||◌, ◌==◌, List, [], ◌∷◌, length, take, nat_lt, if◌then◌else◌, Option, Some, slice_index}
 use Rattle.std.specs.List.{find}
-use Rattle.std.specs.Option.{option_map}
+use Rattle.std.specs.Option.{option_map, option_or}
 use Rattle.std.specs.List.{range_with_len}
 use Rattle.std.specs.Str.{bytes_eq}
 use Rattle.elf_raw.specs.declared.fault.ElfFault.{ElfFault}
@@ -71,10 +71,6 @@ bad_segment bytes = option_map (segment_offset bytes) (find (segment_offends byt
 abbrev pub bad_section : List ℕ → Option ℕ
 bad_section bytes = option_map (section_offset bytes) (find (section_offends bytes) (range_with_len 0 (header_of bytes).shnum))
 
-abbrev pub first_of : Option ℕ → Option ℕ → Option ℕ
-first_of None second = second
-first_of (Some offset) second = Some offset
-
 -- the offset of what is wrong with the tables, by the field of the header where that says it
 abbrev pub bad_table : List ℕ → Option ℕ
 bad_table bytes =
@@ -82,7 +78,7 @@ bad_table bytes =
     else (if reaches_past bytes (header_of bytes).phoff (32 * (header_of bytes).phnum) then Some 28
     else (if not ((header_of bytes).shnum == 0) && not ((header_of bytes).shentsize == 40) then Some 46
     else (if reaches_past bytes (header_of bytes).shoff (40 * (header_of bytes).shnum) then Some 32
-    else first_of (bad_segment bytes) (bad_section bytes))))
+    else option_or (bad_segment bytes) (bad_section bytes))))
 
 -- a bit of the header's flags
 abbrev pub flag : List ℕ → ℕ → Bool
@@ -106,10 +102,14 @@ elf_refusal bytes =
     else (if not (slice_index bytes 4 == 1) || not (slice_index bytes 5 == 1) then Some NotElf32Le
     else table_refusal bytes)
 
--- what reading the tables rests on: the tables lie within the file, and no program header and no section offends
+-- What reading the tables rests on: the tables lie within the file, and so do the bytes of each program header, and of each section that
+-- has some; and the string table of each symbol table is there.
 pub record IsSound (bytes : List ℕ) : Type 0 where
   pub header : header_size ≤ length bytes
   pub segments : reaches_past bytes (header_of bytes).phoff (32 * (header_of bytes).phnum) ≡ false
   pub sections : reaches_past bytes (header_of bytes).shoff (40 * (header_of bytes).shnum) ≡ false
   pub pieces : (number : ℕ) → number < (header_of bytes).phnum → segment_offends bytes number ≡ false
-  pub each : (number : ℕ) → number < (header_of bytes).shnum → section_offends bytes number ≡ false
+  pub held : (number : ℕ) → number < (header_of bytes).shnum → has_no_bytes (section_of bytes number).kind ≡ false
+      → reaches_past bytes (section_of bytes number).offset (section_of bytes number).size ≡ false
+  pub linked : (number : ℕ) → number < (header_of bytes).shnum → (section_of bytes number).kind ≡ type_symbols
+      → (section_of bytes number).link < (header_of bytes).shnum

@@ -3,24 +3,25 @@ use Rattle.std.specs.Prelude.{ℕ, ◌+◌, ◌*◌, Bool, List, map, ◌==◌, 
 use Rattle.std.specs.List.{range_with_len}
 use Rattle.ae_nums.specs.declared.span.Span64.{Span64}
 use Rattle.elf_raw.specs.declared.section.RawSection.{RawSection}
+use Rattle.elf_raw.specs.declared.section.TheConstants.{NULL, SYMBOLS, STRINGS, RELOCATIONS, NO_BITS}
 use Rattle.elf_raw.specs.Header.{header_of}
 use Rattle.elf_raw.specs.Numbers.{word_at}
 
 -- the section types that are used here: SHT_NULL, SHT_SYMTAB, SHT_STRTAB, SHT_RELA, SHT_NOBITS
 abbrev pub type_null : ℕ
-type_null = 0
+type_null = NULL
 
 abbrev pub type_symbols : ℕ
-type_symbols = 2
+type_symbols = SYMBOLS
 
 abbrev pub type_strings : ℕ
-type_strings = 3
+type_strings = STRINGS
 
 abbrev pub type_relocations : ℕ
-type_relocations = 4
+type_relocations = RELOCATIONS
 
 abbrev pub type_no_bits : ℕ
-type_no_bits = 8
+type_no_bits = NO_BITS
 
 -- a section of this type has no bytes in the file
 abbrev pub has_no_bytes : ℕ → Bool

@@ -3,6 +3,7 @@ use Rattle.std.specs.Prelude.{◌≡◌, ℕ, ◌<◌, ◌≤◌, ◌+◌, ◌%�
 use Rattle.std.specs.List.{All, AllPairs}
 use Rattle.ae_nums.specs.declared.span.Span64.{Span64}
 use Rattle.ae_nums.specs.Spans.{Meets}
+use Rattle.elf_raw.specs.declared.limits.TheConstants.{FILE_LIMIT}
 use Rattle.elf_raw.specs.declared.piece.Piece.{Piece}
 use Rattle.elf_raw.specs.declared.raw.RawElf.{RawElf}
 use Rattle.elf_raw.specs.Refusal.{has_magic, segment_passes, section_misfits}
@@ -30,9 +31,9 @@ part_span part = record { from = part.offset; to = part.offset + length part.byt
 abbrev pub IsApart : Piece → Piece → Type 0
 IsApart part other = ¬ Meets (part_span part) (part_span other)
 
--- the parts end at or before 268,435,456, and no two of them meet
+-- the parts end within the limit of a file, and no two of them meet
 pub record IsPlaced (parts : List Piece) : Type 0 where
-  pub end : file_end parts ≤ 268435456
+  pub end : file_end parts ≤ FILE_LIMIT
   pub apart : AllPairs IsApart parts
 
 -- the symbols and the relocations are those that the bytes hold at the sections that are such tables

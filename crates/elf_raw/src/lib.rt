@@ -6,9 +6,12 @@
 #![tactic(auto)]
 
 mod encoding;
+mod entries;
 mod fault;
 mod header;
+mod laws;
 mod laying;
+mod limits;
 mod names;
 mod numbers;
 mod piece;
@@ -25,9 +28,12 @@ mod tables;
 mod tests;
 mod writing;
 
+pub use entries::{relocation_table, string_table, symbol_table};
 pub use fault::ElfFault;
 pub use header::RawHeader;
-pub use numbers::word_at;
+pub use laws::{taken_files_are_sound, words_are_read_back};
+pub use limits::FILE_LIMIT;
+pub use numbers::{add_words, word_at};
 pub use piece::Piece;
 pub use raw::RawElf;
 pub use reading::read_raw;

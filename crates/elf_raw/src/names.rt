@@ -1,10 +1,10 @@
 //! Names in string tables, found by an index of the zero bytes.
 ghost use Rattle.std.specs.Prelude.{◌≡◌, ◌≤◌, length, IfOk};
 ghost use Rattle.elf_raw.specs.Names.{name_in};
-ghost use Rattle.elf_raw.specs.Zeros.{zero_place, next_zero, zeros_of};
+ghost use Rattle.elf_raw.specs.Inner.Zeros.{zero_place, next_zero, zeros_of};
 
-use crate::RawSection;
-use ae_lists::ListOf;
+use crate::{FILE_LIMIT, RawSection};
+use rv_code::ListOf;
 use std::alloc::{AllocError, Global};
 
 /// The bytes of a block.
@@ -55,7 +55,7 @@ fn next_zero_known(bytes: &[u8], zero: usize, from: usize) -> usize
 /// Where the first zero stands from each block on. Each byte is read once: what was found for the block before is still
 /// the next one where it isn't behind.
 fn zeros_of(alloc: Global, bytes: &[u8]) -> Result<Vec<u32>, AllocError>
-    requires { length bytes.now ≤ 268435456 }
+    requires { length bytes.now ≤ FILE_LIMIT }
     ensures { IfOk result (λ zeros. zeros.items ≡ zeros_of bytes.now) }
 {
     let blocks = bytes.len() / BLOCK + 1;
@@ -71,7 +71,7 @@ fn zeros_of(alloc: Global, bytes: &[u8]) -> Result<Vec<u32>, AllocError>
 impl Zeros {
     /// The index of a file.
     pub fn of(alloc: Global, bytes: &[u8]) -> Result<Zeros, AllocError>
-        requires { length bytes.now ≤ 268435456 }
+        requires { length bytes.now ≤ FILE_LIMIT }
         ensures { IfOk result (λ zeros. zeros.next ≡ zeros_of bytes.now) }
     {
         let next = zeros_of(alloc, bytes)?;

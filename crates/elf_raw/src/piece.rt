@@ -1,4 +1,4 @@
-use ae_lists::ListOf;
+use rv_code::ListOf;
 
 /// Bytes of a file: `offset` is where the first of them stands.
 #[derive(Debug, Drop)]

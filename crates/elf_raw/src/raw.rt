@@ -1,5 +1,5 @@
 use crate::{RawHeader, RawRelocation, RawSection, RawSegment, RawSymbol};
-use ae_lists::ListOf;
+use rv_code::ListOf;
 
 /// All that the tables of an ELF32 file say. Symbols and relocations stand table by table, in the order of the sections.
 #[derive(Debug, Drop)]

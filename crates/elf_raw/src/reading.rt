@@ -1,19 +1,20 @@
-ghost use Rattle.std.specs.Prelude.{◌≡◌, ◌≢◌, ◌≤◌, length, None, Some, IfOk, IfErr};
+ghost use Rattle.std.specs.Prelude.{◌≡◌, ◌≢◌, ◌≤◌, length, Some, IfOk, IfErr};
 ghost use Rattle.elf_raw.specs.Raw.{raw_of};
+ghost use Rattle.elf_raw.specs.Tables.{AreTablesOf};
 ghost use Rattle.elf_raw.specs.Refusal.{elf_refusal, IsSound};
 
 use crate::header::read_header;
 use crate::refusing::refusal_of;
 use crate::symbols::read_symbols;
 use crate::tables::{read_relocations, read_sections, read_segments};
-use crate::{ElfFault, RawElf};
-use ae_lists::ListOf;
+use crate::{ElfFault, FILE_LIMIT, RawElf};
+use rv_code::ListOf;
 use std::alloc::{AllocError, Global};
 
 /// The tables of a file that isn't refused.
 fn read_tables(alloc: Global, bytes: &[u8]) -> Result<RawElf, AllocError>
     requires sound { IsSound bytes.now }
-    requires small { length bytes.now ≤ 268435456 }
+    requires small { length bytes.now ≤ FILE_LIMIT }
     ensures { IfOk result (λ raw. raw ≡ raw_of bytes.now) }
 {
     let header = read_header(bytes);
@@ -37,10 +38,8 @@ fn read_tables(alloc: Global, bytes: &[u8]) -> Result<RawElf, AllocError>
 /// The first refusal that holds, in the order of [`ElfFault`]; or memory was wanting.
 #[tactic(auto, using(crate::proofs::Sound::sound))]
 pub fn read_raw(alloc: Global, bytes: &[u8]) -> Result<RawElf, ElfFault>
-    requires { length bytes.now ≤ 268435456 }
-    ensures read { IfOk result (λ raw. raw ≡ raw_of bytes.now) }
-    ensures taken { IfOk result (λ _. elf_refusal bytes.now ≡ None) }
-    ensures sound { IfOk result (λ _. IsSound bytes.now) }
+    requires { length bytes.now ≤ FILE_LIMIT }
+    ensures read { IfOk result (λ raw. AreTablesOf raw bytes.now) }
     ensures refused { IfErr result (λ fault. fault ≢ ElfFault.NoMemory → elf_refusal bytes.now ≡ Some fault) }
 {
     if let Some(fault) = refusal_of(bytes) {

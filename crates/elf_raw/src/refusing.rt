@@ -4,12 +4,12 @@ ghost use Rattle.elf_raw.specs.Header.{header_of};
 ghost use Rattle.elf_raw.specs.Sections.{section_of};
 ghost use Rattle.elf_raw.specs.Refusal.{reaches_past, has_magic, segment_offends, symbols_offend, relocations_offend, section_offends, bad_segment, bad_section, bad_table, table_refusal, elf_refusal};
 
-use crate::ElfFault;
 use crate::header::{HEADER_SIZE, RawHeader, read_header};
 use crate::section::{
     RELOCATIONS, RawSection, SECTION_SIZE, STRINGS, SYMBOLS, has_no_bytes, section_of,
 };
 use crate::segment::{SEGMENT_SIZE, segment_of};
+use crate::{ElfFault, FILE_LIMIT};
 
 /// Whether so many bytes from an offset on reach past the end of the file. A piece with no bytes reaches past nothing.
 fn reaches_past(bytes: &[u8], offset: u32, size: u32) -> bool
@@ -73,7 +73,7 @@ fn section_offends(bytes: &[u8], header: &RawHeader, number: u16) -> bool
 fn bad_segment(bytes: &[u8], header: &RawHeader) -> Option<u32>
     requires header { header.now ≡ header_of bytes.now }
     requires whole { reaches_past bytes.now header.now.phoff (32 * header.now.phnum) ≡ false }
-    requires small { length bytes.now ≤ 268435456 }
+    requires small { length bytes.now ≤ FILE_LIMIT }
     ensures { result ≡ bad_segment bytes.now }
 {
     for number in 0..header.phnum {
@@ -88,7 +88,7 @@ fn bad_segment(bytes: &[u8], header: &RawHeader) -> Option<u32>
 fn bad_section(bytes: &[u8], header: &RawHeader) -> Option<u32>
     requires header { header.now ≡ header_of bytes.now }
     requires whole { reaches_past bytes.now header.now.shoff (40 * header.now.shnum) ≡ false }
-    requires small { length bytes.now ≤ 268435456 }
+    requires small { length bytes.now ≤ FILE_LIMIT }
     ensures { result ≡ bad_section bytes.now }
 {
     for number in 0..header.shnum {
@@ -102,7 +102,7 @@ fn bad_section(bytes: &[u8], header: &RawHeader) -> Option<u32>
 /// The offset of what is wrong with the tables.
 fn bad_table(bytes: &[u8], header: &RawHeader) -> Option<u32>
     requires header { header.now ≡ header_of bytes.now }
-    requires small { length bytes.now ≤ 268435456 }
+    requires small { length bytes.now ≤ FILE_LIMIT }
     ensures { result ≡ bad_table bytes.now }
 {
     if header.phnum != 0 && header.phentsize != 32 {
@@ -134,7 +134,7 @@ fn has_flag(header: &RawHeader, bit: u32) -> bool
 /// What is wrong with the header of a file that is an ELF file of 32 bits, or with its tables.
 fn table_refusal(bytes: &[u8], header: &RawHeader) -> Option<ElfFault>
     requires header { header.now ≡ header_of bytes.now }
-    requires small { length bytes.now ≤ 268435456 }
+    requires small { length bytes.now ≤ FILE_LIMIT }
     ensures { result ≡ table_refusal bytes.now }
 {
     if header.kind != 2 {
@@ -157,7 +157,7 @@ fn table_refusal(bytes: &[u8], header: &RawHeader) -> Option<ElfFault>
 
 /// Why the file isn't taken, `None` where it is.
 pub fn refusal_of(bytes: &[u8]) -> Option<ElfFault>
-    requires { length bytes.now ≤ 268435456 }
+    requires { length bytes.now ≤ FILE_LIMIT }
     ensures { result ≡ elf_refusal bytes.now }
 {
     if bytes.len() < HEADER_SIZE || !has_magic(bytes) {

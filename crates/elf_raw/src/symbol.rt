@@ -1,11 +1,11 @@
 ghost use Rattle.std.specs.Prelude.{◌≡◌, ◌+◌, ◌≤◌, length, IfOk};
 ghost use Rattle.elf_raw.specs.Symbols.{symbol_at};
-ghost use Rattle.elf_raw.specs.Zeros.{zeros_of};
+ghost use Rattle.elf_raw.specs.Inner.Zeros.{zeros_of};
 
 use crate::RawSection;
 use crate::names::{Zeros, name_at};
 use crate::numbers::{half_at, word_at};
-use ae_lists::ListOf;
+use rv_code::ListOf;
 use std::alloc::{AllocError, Global};
 
 /// The bytes of an entry.

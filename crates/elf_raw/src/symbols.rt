@@ -4,12 +4,12 @@ ghost use Rattle.elf_raw.specs.Header.{header_of};
 ghost use Rattle.elf_raw.specs.Refusal.{reaches_past, IsSound};
 ghost use Rattle.elf_raw.specs.Sections.{section_of};
 ghost use Rattle.elf_raw.specs.Symbols.{symbols_in, symbols_of_section, symbols_of};
-ghost use Rattle.elf_raw.specs.Zeros.{zeros_of};
+ghost use Rattle.elf_raw.specs.Inner.Zeros.{zeros_of};
 
 use crate::names::Zeros;
 use crate::section::{SYMBOLS, section_of};
 use crate::symbol::{SYMBOL_SIZE, read_symbol};
-use crate::{RawHeader, RawSection, RawSymbol};
+use crate::{FILE_LIMIT, RawHeader, RawSection, RawSymbol};
 use std::alloc::{AllocError, Global};
 
 /// Adds the entries of a symbol table, the section with this number, whose names are in this string table.
@@ -25,7 +25,7 @@ fn add_symbols(
     requires index { zeros.now.next ≡ zeros_of bytes.now }
     requires strings { strings.now ≡ section_of bytes.now section.now.link }
     requires whole { reaches_past bytes.now section.now.offset section.now.size ≡ false }
-    requires small { length bytes.now ≤ 268435456 }
+    requires small { length bytes.now ≤ FILE_LIMIT }
     ensures { IfOk result (λ _. symbols.new.items ≡ symbols.old.items ++ symbols_in bytes.now (section_of bytes.now) number section.now) }
 {
     for place in 0..section.size / 16 {
@@ -48,7 +48,7 @@ fn add_symbols_of(
     requires index { zeros.now.next ≡ zeros_of bytes.now }
     requires number { number < header.now.shnum }
     requires sound { IsSound bytes.now }
-    requires small { length bytes.now ≤ 268435456 }
+    requires small { length bytes.now ≤ FILE_LIMIT }
     ensures { IfOk result (λ _. symbols.new.items ≡ symbols.old.items ++ symbols_of_section bytes.now (section_of bytes.now) number) }
 {
     let number = u32::from(number);
@@ -68,7 +68,7 @@ pub fn read_symbols(
 ) -> Result<Vec<RawSymbol>, AllocError>
     requires header { header.now ≡ header_of bytes.now }
     requires sound { IsSound bytes.now }
-    requires small { length bytes.now ≤ 268435456 }
+    requires small { length bytes.now ≤ FILE_LIMIT }
     ensures { IfOk result (λ symbols. symbols.items ≡ symbols_of bytes.now) }
 {
     let zeros = Zeros::of(alloc, bytes)?;

@@ -9,7 +9,7 @@ ghost use Rattle.elf_raw.specs.Segments.{segments_of};
 use crate::relocation::{RELOCATION_SIZE, read_relocation};
 use crate::section::{RELOCATIONS, section_of};
 use crate::segment::segment_of;
-use crate::{RawHeader, RawRelocation, RawSection, RawSegment};
+use crate::{FILE_LIMIT, RawHeader, RawRelocation, RawSection, RawSegment};
 use std::alloc::{AllocError, Global};
 
 /// The program headers, in order.
@@ -54,7 +54,7 @@ fn add_relocations(
     relocations: &mut Vec<RawRelocation>,
 ) -> Result<(), AllocError>
     requires whole { reaches_past bytes.now section.now.offset section.now.size ≡ false }
-    requires small { length bytes.now ≤ 268435456 }
+    requires small { length bytes.now ≤ FILE_LIMIT }
     ensures { IfOk result (λ _. relocations.new.items ≡ relocations.old.items ++ relocations_in bytes.now number section.now) }
 {
     for place in 0..section.size / 12 {
@@ -74,7 +74,7 @@ fn add_relocations_of(
     requires header { header.now ≡ header_of bytes.now }
     requires number { number < header.now.shnum }
     requires sound { IsSound bytes.now }
-    requires small { length bytes.now ≤ 268435456 }
+    requires small { length bytes.now ≤ FILE_LIMIT }
     ensures { IfOk result (λ _. relocations.new.items ≡ relocations.old.items ++ relocations_of_section bytes.now (section_of bytes.now) number) }
 {
     let section = section_of(bytes, header, u32::from(number));
@@ -92,7 +92,7 @@ pub fn read_relocations(
 ) -> Result<Vec<RawRelocation>, AllocError>
     requires header { header.now ≡ header_of bytes.now }
     requires sound { IsSound bytes.now }
-    requires small { length bytes.now ≤ 268435456 }
+    requires small { length bytes.now ≤ FILE_LIMIT }
     ensures { IfOk result (λ relocations. relocations.items ≡ relocations_of bytes.now) }
 {
     let mut relocations = Vec::new(alloc);

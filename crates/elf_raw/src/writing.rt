@@ -1,9 +1,8 @@
 //! Files written from their tables.
-ghost use Rattle.std.specs.Prelude.{◌≡◌, ◌^◌, ◌*◌, ◌<◌, ◌≤◌, length, take, drop, replicate, max, None, IfOk};
+ghost use Rattle.std.specs.Prelude.{◌≡◌, ◌^◌, ◌*◌, ◌<◌, ◌≤◌, length, take, drop, replicate, max, IfOk};
 ghost use Rattle.std.specs.List.{All, flat_map, fold};
 ghost use Rattle.elf_raw.specs.Header.{header_of};
-ghost use Rattle.elf_raw.specs.Raw.{raw_of};
-ghost use Rattle.elf_raw.specs.Refusal.{elf_refusal};
+ghost use Rattle.elf_raw.specs.Tables.{AreTablesOf};
 ghost use Rattle.elf_raw.specs.Sections.{section_span, section_at};
 ghost use Rattle.elf_raw.specs.Segments.{segment_span, segment_at};
 ghost use Rattle.elf_raw.specs.Writable.{IsCounted, IsWritable};
@@ -124,8 +123,8 @@ fn put_parts(file: &mut [u8], raw: &RawElf, pieces: &[Piece])
     put_pieces(file, pieces);
 }
 
-/// The file with these tables, and with these pieces at their offsets, and zeros between. It has at most 268,435,456 bytes, and
-/// [`crate::read_raw`] reads it back as the same tables.
+/// The file with these tables, and with these pieces at their offsets, and zeros between. [`crate::read_raw`] reads it back as the
+/// same tables: it isn't too long, and no refusal holds of it.
 ///
 /// The header's counts are those of the lists, where the bytes of a segment or a section stand is what its fields say, no two
 /// parts of the file meet, the pieces hold the symbols and the relocations that the lists give at the sections that are such
@@ -138,9 +137,7 @@ pub fn write_raw(alloc: Global, raw: &RawElf, pieces: &[Piece]) -> Result<Vec<u8
     requires { IsWritable raw.now pieces.now }
     ensures written { IfOk result (λ bytes. bytes.items ≡ file_of raw.now pieces.now) }
     ensures pieces { IfOk result (λ bytes. All (λ piece. take (length piece.bytes) (drop piece.offset bytes.items) ≡ piece.bytes) pieces.now) }
-    ensures read_back { IfOk result (λ bytes. raw_of bytes.items ≡ raw.now) }
-    ensures taken { IfOk result (λ bytes. elf_refusal bytes.items ≡ None) }
-    ensures small { IfOk result (λ bytes. length bytes.items ≤ 268435456) }
+    ensures read_back { IfOk result (λ bytes. AreTablesOf raw.now bytes.items) }
 {
     let mut file = blank_file(alloc, size_of(raw, pieces))?;
     put_parts(&mut file, raw, pieces);

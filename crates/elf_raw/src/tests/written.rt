@@ -5,8 +5,8 @@ use super::{TABLES, THREE_WORDS, bytes_of};
 use crate::{
     Piece, RawElf, RawHeader, RawRelocation, RawSection, RawSegment, RawSymbol, read_raw, write_raw,
 };
-use ae_lists::ListOf;
 use ae_nums::Span64;
+use rv_code::ListOf;
 use std::alloc::{AllocError, Global};
 use std::test::Fail;
 

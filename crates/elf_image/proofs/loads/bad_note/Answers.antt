@@ -1,7 +1,7 @@
 use Rattle.std.proofs.Common.{◌<◌, ℕ, Some, sym, ap, ◌∙◌, arith, length-take}
 use Rattle.elf_raw.specs.Header.{header_of}
 use Rattle.elf_raw.specs.declared.segment.RawSegment.{RawSegment}
-use Rattle.elf_raw.proofs.FirstBad.{found_here, found_later}
+use Rattle.rv_code.proofs.LawsOfRows.{found_here, found_later}
 use Rattle.elf_image.specs.Loads.{bad_note_at}
 use Rattle.elf_image.proofs.HeaderRows.{headers_count, header_here, piece_within, count_read}
 use Rattle.elf_image.proofs.BadHere.{bad_note_here}

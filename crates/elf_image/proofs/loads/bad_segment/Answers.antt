@@ -3,7 +3,7 @@ use Rattle.std.specs.Option.{option_or}
 use Rattle.elf_raw.specs.Header.{header_of}
 use Rattle.elf_raw.specs.declared.segment.RawSegment.{RawSegment}
 use Rattle.elf_raw.specs.Segments.{segment_of}
-use Rattle.elf_raw.proofs.FirstBad.{found_here, found_later}
+use Rattle.rv_code.proofs.LawsOfRows.{found_here, found_later}
 use Rattle.elf_image.specs.Loads.{is_load, bad_load_at, code_or_note}
 use Rattle.elf_image.proofs.HeaderRows.{headers_count, header_here, count_read, passing_more}
 use Rattle.elf_image.proofs.BadHere.{bad_load_here}

@@ -1,14 +1,12 @@
-use Rattle.std.proofs.Common.{◌≡◌, [], ◌∷◌, ◌++◌, map, ap, ◌∙◌, arith}
+use Rattle.std.proofs.Common.{◌≡◌, [], map, ap, ◌∙◌, arith}
 use Rattle.std.specs.List.{range_with_len}
-use Rattle.elf_raw.proofs.Rows.{row_more}
-use Rattle.rv_code.specs.declared.image.Mark.{Mark}
+use Rattle.rv_code.proofs.LawsOfRows.{row_more}
 use Rattle.elf_image.specs.NoteBytes.{mark_count, mark_of, note_of}
 use Rattle.elf_image.proofs.note.read_note.Goals as goal
 
 pub loop-number-preserved : goal.loop-number-preserved
 loop-number-preserved c =
-    row_more (mark_of c.args.piece.now) [] c.loop-number.marks.items c.push.new.self.items c.loop-number.number c.loop-number.invariant
-    (c.in_ok-push.ensures.items ∙ ap (λ (m : Mark). c.loop-number.marks.items ++ m ∷ []) c.mark_of.ensures)
+    row_more (mark_of c.args.piece.now) [] c.loop-number.marks.items c.push.new.self.items c.loop-number.number _ c.loop-number.invariant c.in_ok-push.ensures.items c.mark_of.ensures
 
 pub returns : goal.returns
 returns c =

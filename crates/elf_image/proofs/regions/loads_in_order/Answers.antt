@@ -2,8 +2,8 @@
 use Rattle.std.proofs.Common.{rules, ap, ◌∙◌, subst, sym}
 use Rattle.std.specs.Prelude.{◌≢◌, AllPairs}
 use Rattle.elf_raw.specs.declared.segment.RawSegment.{RawSegment}
-use Rattle.ae_lists.specs.Ordered.{ordered}
-use Rattle.ae_lists.proofs.Ordered.{ordered_from_sort_by_key}
+use Rattle.rv_code.specs.Ordered.{ordered}
+use Rattle.rv_code.proofs.LawsOfLists.{ordered_from_sort_by_key}
 use Rattle.elf_image.proofs.regions.loads_in_order.Goals as goal
 
 pub returns : goal.returns

@@ -1,6 +1,6 @@
 use Rattle.std.proofs.Common.{ap, ◌∙◌}
-use Rattle.ae_lists.specs.Ordered.{rising}
-use Rattle.ae_lists.proofs.Ordered.{rising_from_sort}
+use Rattle.rv_code.specs.Ordered.{rising}
+use Rattle.rv_code.proofs.LawsOfLists.{rising_from_sort}
 use Rattle.elf_raw.specs.declared.raw.RawElf.{RawElf}
 use Rattle.elf_image.proofs.Naming.{named_by}
 use Rattle.elf_image.proofs.relocations.named_of.Goals as goal

@@ -4,8 +4,8 @@ use Rattle.std.specs.List.Sorted.{IsNonDecreasingBy}
 use Rattle.std.proofs.lemmas.Result.{IfOk-weaker}
 use Rattle.std.proofs.lemmas.List.Sorted.{IsNonDecreasingBy-from_sort_by_key, All-permutation}
 use Rattle.rv_code.specs.declared.extent.Extent.{Extent}
-use Rattle.elf_image.specs.Parts.{IsPart, joined_of}
-use Rattle.elf_image.proofs.Joined.{joined_of-runs_of, length-joined_of}
+use Rattle.elf_image.specs.Inner.Parts.{IsPart, joined_of}
+use Rattle.elf_image.proofs.Joined.{joined_of-extents_at, length-joined_of}
 use Rattle.elf_image.proofs.sections.code_extents.Goals as goal
 
 pub joined-requires-clause-each : goal.joined-requires-clause-each
@@ -22,7 +22,7 @@ returns-clause-words c =
     IfOk-weaker c.joined.result _ _
     (λ extents is.
     is ∙ ap joined_of c.deref.ensures.value
-    ∙ joined_of-runs_of c.in_ok-parts.parts.items _ _ c.in_ok-parts.ensures.parts c.sort_unstable_by_key.ensures.permutation
+    ∙ joined_of-extents_at c.in_ok-parts.parts.items _ _ c.in_ok-parts.ensures.parts c.sort_unstable_by_key.ensures.permutation
     (IsNonDecreasingBy-from_sort_by_key (λ (part : Extent). part.start) _ c.sort_unstable_by_key.ensures.sorted (λ a r q k. search rules))
     c.in_ok-parts.ensures.words)
     c.joined.ensures

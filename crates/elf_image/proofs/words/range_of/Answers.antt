@@ -1,14 +1,14 @@
 use Rattle.std.proofs.Common.{◌≡◌, ◌+◌, ◌*◌, [], map, ap, ◌∙◌, sym, arith}
 use Rattle.std.specs.List.{range_with_len}
 use Rattle.std.proofs.lemmas.Simd.{map-map}
-use Rattle.elf_raw.proofs.OneMore.{pushed_more}
+use Rattle.rv_code.proofs.LawsOfRows.{row_more}
 use Rattle.elf_image.specs.CodeWords.{value_at}
 use Rattle.elf_image.proofs.words.range_of.Goals as goal
 
 pub loop-number-preserved : goal.loop-number-preserved
 loop-number-preserved c =
-    pushed_more (λ number. value_at c.args.bytes.now (c.args.extent.start + 4 * number)) [] c.loop-number.words.items c.push.new.self.items c.loop-number.number c.value_at.result
-    c.in_ok-push.ensures.items c.loop-number.invariant c.value_at.ensures
+    row_more (λ number. value_at c.args.bytes.now (c.args.extent.start + 4 * number)) [] c.loop-number.words.items c.push.new.self.items c.loop-number.number c.value_at.result
+    c.loop-number.invariant c.in_ok-push.ensures.items c.value_at.ensures
 
 pub returns : goal.returns
 returns c =

@@ -1,5 +1,5 @@
 use Rattle.std.proofs.Common.{◌≡◌, ◌+◌, drop}
-use Rattle.elf_raw.specs.Zeros.{zero_place}
+use Rattle.elf_raw.specs.Inner.Zeros.{zero_place}
 use Rattle.elf_raw.proofs.names.zero_place.Given as goal
 
 abbrev pub invariant-loop-place : goal.invariant-loop-place

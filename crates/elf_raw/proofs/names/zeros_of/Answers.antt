@@ -1,6 +1,6 @@
 use Rattle.std.proofs.Common.{◌≡◌, ℕ, ◌+◌, ◌-◌, ◌*◌, [], ◌∷◌, ◌++◌, sym, ap, ◌∙◌, arith}
 use Rattle.std.proofs.lemmas.List.FromFn.{map-range_with_len_more}
-use Rattle.elf_raw.specs.Zeros.{next_zero, zero_of_block}
+use Rattle.elf_raw.specs.Inner.Zeros.{next_zero, zero_of_block}
 use Rattle.elf_raw.proofs.NextZero.{next_from}
 use Rattle.elf_raw.proofs.names.zeros_of.Goals as goal
 

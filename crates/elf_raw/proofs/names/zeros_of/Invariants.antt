@@ -1,6 +1,6 @@
 use Rattle.std.proofs.Common.{◌≡◌, ◌-◌, ◌*◌, map}
 use Rattle.std.specs.List.{range_with_len}
-use Rattle.elf_raw.specs.Zeros.{next_zero, zero_of_block}
+use Rattle.elf_raw.specs.Inner.Zeros.{next_zero, zero_of_block}
 use Rattle.elf_raw.proofs.names.zeros_of.Given as goal
 
 abbrev pub invariant-loop-block : goal.invariant-loop-block

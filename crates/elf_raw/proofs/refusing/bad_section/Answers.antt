@@ -4,7 +4,7 @@ use Rattle.std.specs.Option.{option_map}
 use Rattle.elf_raw.specs.declared.header.RawHeader.{RawHeader}
 use Rattle.elf_raw.specs.Refusal.{section_offends}
 use Rattle.elf_raw.specs.Sections.{section_offset}
-use Rattle.elf_raw.proofs.FirstBad.{found_here, found_later}
+use Rattle.rv_code.proofs.LawsOfRows.{found_here, found_later}
 use Rattle.elf_raw.proofs.refusing.bad_section.Goals as goal
 
 pub returns-then-section_offends : goal.returns-then-section_offends

@@ -4,7 +4,7 @@ use Rattle.std.specs.Option.{option_map}
 use Rattle.elf_raw.specs.declared.header.RawHeader.{RawHeader}
 use Rattle.elf_raw.specs.Refusal.{segment_offends}
 use Rattle.elf_raw.specs.Segments.{segment_offset}
-use Rattle.elf_raw.proofs.FirstBad.{found_here, found_later}
+use Rattle.rv_code.proofs.LawsOfRows.{found_here, found_later}
 use Rattle.elf_raw.proofs.refusing.bad_segment.Goals as goal
 
 pub returns-then-segment_offends : goal.returns-then-segment_offends

@@ -3,7 +3,7 @@ use Rattle.std.specs.List.{flat_map, range_with_len}
 use Rattle.elf_raw.specs.declared.header.RawHeader.{RawHeader}
 use Rattle.elf_raw.specs.Relocations.{relocations_of_section}
 use Rattle.elf_raw.specs.Sections.{section_of}
-use Rattle.elf_raw.proofs.Rows.{rows_more}
+use Rattle.rv_code.proofs.LawsOfRows.{rows_more}
 use Rattle.elf_raw.proofs.tables.read_relocations.Goals as goal
 
 pub loop-number-preserved : goal.loop-number-preserved

@@ -1,18 +1,15 @@
-use Rattle.std.proofs.Common.{◌≡◌, ℕ, [], ◌∷◌, ◌++◌, map, sym, ap, ◌∙◌, arith}
-use Rattle.std.proofs.lemmas.List.FromFn.{map-range_with_len_more}
+use Rattle.std.proofs.Common.{◌≡◌, [], map, ap, ◌∙◌, arith}
 use Rattle.std.specs.List.{range_with_len}
 use Rattle.elf_raw.specs.declared.header.RawHeader.{RawHeader}
 use Rattle.elf_raw.specs.Sections.{section_of}
+use Rattle.rv_code.proofs.LawsOfRows.{row_more}
 use Rattle.elf_raw.proofs.tables.read_sections.Goals as goal
 
 pub loop-number-preserved : goal.loop-number-preserved
 loop-number-preserved c =
     let bytes = c.args.bytes.now in
-    let number : ℕ = c.loop-number.number in
-    let last : c.section_of.result ≡ section_of bytes number = c.section_of.ensures ∙ ap (section_of bytes) c.from.ensures in
-    c.in_ok-push.ensures.items
-    ∙ (λ i. c.loop-number.invariant i ++ last i ∷ [])
-    ∙ sym (map-range_with_len_more (section_of bytes) 0 number number (omega arith))
+    row_more (section_of bytes) [] c.loop-number.sections.items c.push.new.self.items c.loop-number.number _ c.loop-number.invariant c.in_ok-push.ensures.items
+    (c.section_of.ensures ∙ ap (section_of bytes) c.from.ensures)
 
 pub returns : goal.returns
 returns c =

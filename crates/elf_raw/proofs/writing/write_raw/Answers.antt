@@ -1,11 +1,10 @@
-use Rattle.std.proofs.Common.{◌≡◌, ℕ, ◌≤◌, List, length, take, drop, replicate, ap, sym, subst, ◌∙◌}
+use Rattle.std.proofs.Common.{◌≡◌, ℕ, List, length, take, drop, replicate, ap, sym, subst, ◌∙◌}
 use Rattle.std.proofs.lemmas.List.{take_at, length-replicate}
 use Rattle.std.specs.List.{All}
 use Rattle.elf_raw.specs.declared.piece.Piece.{Piece}
-use Rattle.elf_raw.specs.Raw.{raw_of}
-use Rattle.elf_raw.specs.Refusal.{elf_refusal}
+use Rattle.elf_raw.specs.Tables.{AreTablesOf}
 use Rattle.elf_raw.proofs.ReadBack.{IsBack}
-use Rattle.elf_raw.proofs.WrittenFile.{file_laid, file_length, file_pieces, file_read_back, file_not_refused}
+use Rattle.elf_raw.proofs.WrittenFile.{file_laid, file_pieces, file_read}
 use Rattle.elf_raw.proofs.writing.write_raw.Goals as goal
 
 pub put_parts-requires-clause-end : goal.put_parts-requires-clause-end
@@ -37,21 +36,4 @@ returns-clause-read_back c =
       segments = c.put_parts.ensures.segments;
       sections = c.put_parts.ensures.sections;
     } in
-    ap raw_of (returns-clause-written c) ∙ file_read_back c.args.raw.now c.args.pieces.now c.requires back
-
-pub returns-clause-taken : goal.returns-clause-taken
-returns-clause-taken c =
-    let back : IsBack c.args.raw.now =
-    record {
-      size = c.size_of.ensures.size;
-      header = c.put_parts.ensures.header;
-      segments = c.put_parts.ensures.segments;
-      sections = c.put_parts.ensures.sections;
-    } in
-    ap elf_refusal (returns-clause-written c) ∙ file_not_refused c.args.raw.now c.args.pieces.now c.requires back
-
-pub returns-clause-small : goal.returns-clause-small
-returns-clause-small c =
-    subst (λ (n : ℕ). n ≤ 268435456)
-    (sym (ap (λ (xs : List ℕ). length xs) (returns-clause-written c) ∙ file_length c.args.raw.now c.args.pieces.now))
-    c.requires.placed.end
+    subst (λ (file : List ℕ). AreTablesOf c.args.raw.now file) (sym (returns-clause-written c)) (file_read c.args.raw.now c.args.pieces.now c.requires back)

@@ -1,5 +1,5 @@
 use Rattle.std.proofs.Common.{◌≡◌, ℕ, ◌+◌, ◌-◌, ◌*◌, ◌/◌, ◌≤◌, length, take, drop, get_or, ap, ◌∙◌, arith, rules, length-take, length-drop}
-use Rattle.elf_raw.specs.Zeros.{zero_place, next_zero}
+use Rattle.elf_raw.specs.Inner.Zeros.{zero_place, next_zero}
 use Rattle.elf_raw.proofs.NextZero.{next_le}
 use Rattle.elf_raw.proofs.ZeroIndex.{block_within, index_entry, in_block, behind_block}
 use Rattle.elf_raw.proofs.names.Zeros.next.Goals as goal

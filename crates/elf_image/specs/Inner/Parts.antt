@@ -2,11 +2,11 @@
 use Rattle.std.specs.Prelude.{◌+◌, ◌-◌, ◌/◌, Bool, List, [], ◌∷◌, nat_le, max, if◌then◌else◌}
 use Rattle.rv_code.specs.declared.extent.Extent.{Extent}
 use Rattle.rv_code.specs.Code.{extent_end}
-use Rattle.rv_code.specs.Places.{IsRun, EndsInSpace}
+use Rattle.rv_code.specs.Places.{IsCodeExtent, EndsInSpace}
 
 -- it isn't empty, starts at a multiple of 4, and ends in the address space
 pub record IsPart (extent : Extent) : Type 0 where
-  pub run : IsRun extent
+  pub run : IsCodeExtent extent
   pub ends : EndsInSpace extent
 
 -- a part that starts no earlier begins in the extent or right behind it

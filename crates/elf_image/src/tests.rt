@@ -1,5 +1,0 @@
-//! Whole files, in tables.
-
-mod accepting;
-mod code;
-mod segments;
