@@ -1,4 +1,4 @@
-pub mod Putting
-pub mod Joined
-pub mod Rows
-pub mod Wrapped
+mod GivenBack
+mod Joined
+mod Rows
+mod Wrapped

@@ -1,7 +1,7 @@
 //! The listing of an image's code.
 ghost use Rattle.std.specs.Prelude.{OnOk, OnErr};
 ghost use Rattle.std.specs.List.{flat_map};
-ghost use Rattle.ae_nums.specs.Lines.{Puts};
+ghost use Rattle.ae_nums.specs.Writer.{Puts};
 ghost use Rattle.ae_ports.specs.Content.{Appends, AppendsFront};
 ghost use Rattle.ae_ports.specs.Fault.{HasCause};
 ghost use Rattle.ae_print.specs.CodeText.{word_lines, range_lines, code_text};

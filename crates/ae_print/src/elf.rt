@@ -1,6 +1,6 @@
 //! The text of an ELF file's tables.
 ghost use Rattle.std.specs.Prelude.{◌≡◌, ◌≤◌, length, OnOk, OnErr};
-ghost use Rattle.ae_nums.specs.Lines.{Puts};
+ghost use Rattle.ae_nums.specs.Writer.{Puts};
 ghost use Rattle.ae_ports.specs.Content.{Appends, AppendsFront};
 ghost use Rattle.ae_ports.specs.Fault.{HasCause};
 ghost use Rattle.ae_print.specs.ElfText.{header_line, segment_front, segment_rest, segment_line, segment_lines, section_front, section_rest, section_line, section_lines, table_lines, count_line, elf_text};

@@ -9,6 +9,3 @@ mod pieces;
 
 pub use code::print_code;
 pub use elf::print_elf;
-
-#[cfg(test)]
-mod tests;

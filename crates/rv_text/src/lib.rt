@@ -9,6 +9,3 @@ mod pieces;
 mod shapes;
 
 pub use lines::listing;
-
-#[cfg(test)]
-mod tests;

@@ -1,5 +1,5 @@
 use Rattle.std.proofs.Common.{Ok}
-use Rattle.ae_nums.specs.Lines.{Puts}
+use Rattle.ae_nums.specs.Writer.{Puts}
 use Rattle.ae_print.specs.CodeText.{range_lines}
 use Rattle.ae_print.proofs.Joined.{texts_before}
 use Rattle.ae_print.proofs.code.write_ranges.Given as goal

@@ -1,5 +1,5 @@
 use Rattle.std.proofs.Common.{◌≡◌, ◌+◌, ◌*◌, Ok}
-use Rattle.ae_nums.specs.Lines.{Puts}
+use Rattle.ae_nums.specs.Writer.{Puts}
 use Rattle.rv_code.specs.Numbers.{wrap}
 use Rattle.ae_print.specs.CodeText.{word_line}
 use Rattle.ae_print.proofs.Rows.{lines_before}

@@ -1,5 +1,5 @@
 use Rattle.std.proofs.Common.{Ok}
-use Rattle.ae_nums.specs.Lines.{Puts}
+use Rattle.ae_nums.specs.Writer.{Puts}
 use Rattle.ae_print.specs.ElfText.{section_line}
 use Rattle.ae_print.proofs.Rows.{lines_before}
 use Rattle.ae_print.proofs.elf.write_sections.Given as goal
