@@ -11,7 +11,7 @@ mod std_source;
 mod tests;
 
 use ae_ports::Word;
-use ae_top::ae;
+use ae_top::exit_code;
 use file_store::FileStore;
 use std::alloc::AllocError;
 use std::process::ExitCode;
@@ -39,15 +39,14 @@ fn run(rt: &HostRuntime) -> Result<u8, AllocError> {
     let mut input = StdSource::new(rt.stdin());
     let mut out = StdSink::new(rt.stdout());
     let mut err = StdSink::new(rt.stderr());
-    let status = ae(
+    Ok(exit_code(
         rt.alloc(),
         &words,
         &mut store,
         &mut input,
         &mut out,
         &mut err,
-    );
-    Ok(status.code())
+    ))
 }
 
 /// The words after the program's name. Where the system gives one that isn't text there are none, which is no command.

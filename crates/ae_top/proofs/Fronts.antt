@@ -7,7 +7,7 @@ use Rattle.std.specs.Bool.{⊤}
 use borrow.Rule.Slice.PartMut.{put_mid}
 use Rattle.ae_ports.specs.declared.failed.Failed.{Failed}
 use Rattle.ae_ports.specs.Files.{Files, SameFiles, Copies, Gets}
-use Rattle.ae_top.specs.Reading.{IsRead}
+use Rattle.ae_top.specs.Inner.Reading.{IsRead}
 
 -- what holds of the file of this name, where the files are told
 abbrev OfFile : Option Files → List ℕ → (List ℕ → Type 0) → Type 0

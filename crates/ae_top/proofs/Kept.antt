@@ -1,61 +1,73 @@
--- From a machine that was loaded and run to what a command promises of the file.
-use Rattle.std.proofs.Common.{◌≡◌, ◌≢◌, ℕ, List, Option, None, Some, refl, sym, subst}
-use Rattle.std.specs.Prelude.{MatchOption, ⊤}
-use Rattle.ae_nums.specs.declared.item.Item.{Item}
-use Rattle.ae_ports.specs.Files.{Files}
+-- From what the parts of a command did to what the command promises.
+use Rattle.std.proofs.Common.{◌≡◌, ℕ, List, Option, Result, Some, inr, refl, sym, ◌∙◌, subst}
+use Rattle.std.specs.Prelude.{IsErrOf}
+use Rattle.ae_nums.specs.Trace.{trace_text}
+use Rattle.ae_ports.specs.Files.{Files, SameFiles}
+use Rattle.rv_machine.specs.declared.outcome.MachineFault.{MachineFault}
+use Rattle.rv_machine.specs.declared.outcome.Outcome.{Outcome}
 use Rattle.rv_machine.specs.Held.{Held}
 use Rattle.rv_machine.specs.Outcomes.{run_in, items_in_run}
-use Rattle.rv_machine.specs.Run.{Run}
+use Rattle.rv_machine.specs.Run.{items_of}
+use Rattle.ae_top.specs.declared.no_file.NoFile.{NoFile}
 use Rattle.ae_top.specs.declared.refusal.Refusal.{Refusal}
 use Rattle.ae_top.specs.declared.status.Status.{Status}
-use Rattle.ae_top.specs.declared.status.Status.TheVariants.{Done, Usage, Missing, Refused, InputFault, OutFault, ErrFault, FuelSpent, Faulted, Memory}
-use Rattle.ae_top.specs.Refusing.{refusal_of, IsNamed}
-use Rattle.ae_top.specs.Run.{RunSaysOfFile, RunSays}
-use Rattle.ae_top.specs.Running.{RanAs, RanFile, IsUnrun, IsLoaded}
-use Rattle.ae_top.specs.World.{Streams}
+use Rattle.ae_top.specs.Inner.Command.{Carries}
+use Rattle.ae_top.specs.Inner.Machine.{RanMachine}
+use Rattle.ae_top.specs.NoFile.{Lacks, HasNoFile, status_without}
+use Rattle.ae_top.specs.Plain.{TraceHas}
+use Rattle.ae_top.specs.Inner.Loading.{IsLoaded}
+use Rattle.ae_top.specs.Running.{RanAs, RanFile, status_of}
+use Rattle.ae_top.specs.World.{World, Blames, BlamesDevices}
+use Rattle.ae_top.proofs.Blamed.{run_blames, run_unused, no_file_blames, store_blames, without_unused}
 
--- what is said of the run of a machine that was loaded is said of the file's
-pub ran_file : (asks : List ℕ → Option Refusal) (machine : Held) (bytes : List ℕ) (fuel : ℕ) (input : Option (List ℕ)) (says : Run → List Item → Type 0) → IsLoaded asks machine bytes
-    → ((told : List ℕ) → input ≡ Some told → says (run_in machine told fuel) (items_in_run machine told fuel)) → RanFile asks bytes fuel input says
-ran_file asks machine bytes fuel input says loaded ran =
-    record {
-      image = loaded.image;
-      accepted = loaded.accepted;
-      asked = loaded.asked;
-      run = λ told tells. subst (λ (m : Held). says (run_in m told fuel) (items_in_run m told fuel)) loaded.loaded (ran told tells);
-    }
+-- there is no file to work on
+module _ (asks : List ℕ → Option Refusal) (word : ℕ) (name : List ℕ) (why : NoFile) (status : Status) (before now : World)
+    (is : status ≡ status_without why word) (lacks : Lacks asks before.store.told name why) (same : now.streams ≡ before.streams)
+    (files : SameFiles before.store.told now.store.told) (store : Blames (why ≡ NoFile.StoreFault) before.store.faults now.store.faults) where
+  no_file : HasNoFile asks word name status before now
+  no_file = record { why = why; lacks = lacks; says = is; streams = same; files = files }
 
-run_says_of_file : (status : Status) (bytes : List ℕ) (fuel : ℕ) (before now : Streams) → (IsUnrun status → ⊥) → status ≢ Status.StoreFault
-    → RanFile refusal_of bytes fuel before.input (λ r _. RanAs status fuel r before now) → RunSaysOfFile status bytes fuel before now
-run_says_of_file Done bytes fuel before now run no_store ran = ran
-run_says_of_file (Faulted ending) bytes fuel before now run no_store ran = ran
-run_says_of_file (FuelSpent steps) bytes fuel before now run no_store ran = ran
-run_says_of_file InputFault bytes fuel before now run no_store ran = ran
-run_says_of_file OutFault bytes fuel before now run no_store ran = ran
-run_says_of_file ErrFault bytes fuel before now run no_store ran = ran
-run_says_of_file Status.StoreFault bytes fuel before now run no_store ran = absurd (no_store refl)
-run_says_of_file Usage bytes fuel before now run no_store ran = absurd (run tt)
-run_says_of_file (Missing word) bytes fuel before now run no_store ran = absurd (run tt)
-run_says_of_file (Refused refusal) bytes fuel before now run no_store ran = absurd (run tt)
-run_says_of_file Memory bytes fuel before now run no_store ran = absurd (run tt)
+  pub carries_no_file : (promise : Type 0) → (HasNoFile asks word name status before now → promise) → Carries promise status before now
+  carries_no_file promise keeps =
+      record {
+        keeps = keeps no_file;
+        blames = subst (λ s. BlamesDevices s before now) (sym is) (no_file_blames why word before now same store);
+        used = λ usage. without_unused why word (sym is ∙ usage);
+      }
 
-of_file : (machine : Held) (prog : ℕ) (status : Status) (file : Option (List ℕ)) (fuel : ℕ) (before now : Streams) → (IsUnrun status → ⊥) → status ≢ Status.StoreFault
-    → MatchOption file ⊥ (IsLoaded refusal_of machine) → ((told : List ℕ) → before.input ≡ Some told → RanAs status fuel (run_in machine told fuel) before now)
-    → RunSays prog status file fuel before now
-of_file machine prog status None fuel before now run no_store loaded ran = absurd loaded
-of_file machine prog status (Some bytes) fuel before now run no_store loaded ran =
-    run_says_of_file status bytes fuel before now run no_store (ran_file refusal_of machine bytes fuel before.input (λ r _. RanAs status fuel r before now) loaded ran)
+-- a machine that was loaded and run
+module _ (asks : List ℕ → Option Refusal) (name : List ℕ) (machine : Held) (fuel : ℕ) (answer : Result Outcome MachineFault) (before now : World)
+    (loaded : IsLoaded asks before.store.told name machine) (ran : RanMachine machine fuel answer before.streams now.streams) where
+  abbrev pub ran_file : RanFile asks name fuel answer before now
+  ran_file =
+      record {
+        bytes = loaded.bytes;
+        has = loaded.has;
+        image = loaded.image;
+        taken = loaded.taken;
+        ran = λ input tells. subst (λ (m : Held). RanAs answer (run_in m input fuel) before.streams now.streams) loaded.loaded (ran.ran input tells);
+        shows = ran.shows;
+      }
 
-pub run_says : (machine : Held) (prog : ℕ) (name : List ℕ) (status : Status) (files : Option Files) (fuel : ℕ) (before now : Streams) → (IsUnrun status → ⊥) → status ≢ Status.StoreFault
-    → MatchOption files ⊤ (λ all. MatchOption (all name) ⊥ (IsLoaded refusal_of machine)) → ((told : List ℕ) → before.input ≡ Some told → RanAs status fuel (run_in machine told fuel) before now)
-    → MatchOption files ⊤ (λ all. RunSays prog status (all name) fuel before now)
-run_says machine prog name status None fuel before now run no_store loaded ran = tt
-run_says machine prog name status (Some all) fuel before now run no_store loaded ran = of_file machine prog status (all name) fuel before now run no_store loaded ran
+  pub carries_run : (promise : Type 0) (status : Status) → status ≡ status_of fuel answer → Blames (IsErrOf answer MachineFault.EventFault) before.store.faults now.store.faults
+      → promise → Carries promise status before now
+  carries_run promise status is store keeps =
+      record {
+        keeps = keeps;
+        blames = subst (λ s. BlamesDevices s before now) (sym is) (run_blames fuel answer before now store ran.blames);
+        used = λ usage. run_unused fuel answer (sym is ∙ usage);
+      }
 
--- a program that was run isn't missing
-pub not_missing : (status : Status) (prog : ℕ) → (IsUnrun status → ⊥) → (word : ℕ) → status ≡ Missing word → word ≡ prog
-not_missing status prog run word is = absurd (run (subst IsUnrun (sym is) tt))
+-- the lines of its items
+pub lines_of : (asks : List ℕ → Option Refusal) (name trace : List ℕ) (machine : Held) (fuel : ℕ) (answer : Result Outcome MachineFault) (told files : Option Files) (input : Option (List ℕ))
+    → (loaded : IsLoaded asks told name machine)
+    → ((bytes : List ℕ) → input ≡ Some bytes → TraceHas answer (trace_text (items_in_run machine bytes fuel)) files trace)
+    → (bytes : List ℕ) → input ≡ Some bytes → TraceHas answer (trace_text (items_of loaded.image bytes fuel)) files trace
+lines_of asks name trace machine fuel answer told files input loaded lines bytes tells =
+    subst (λ (m : Held). TraceHas answer (trace_text (items_in_run m bytes fuel)) files trace) loaded.loaded (lines bytes tells)
 
--- nor is it refused
-pub not_refused : (status : Status) → (IsUnrun status → ⊥) → (refusal : Refusal) → status ≡ Status.Refused refusal → IsNamed refusal
-not_refused status run refusal is = absurd (run (subst IsUnrun (sym is) tt))
+-- TRACE couldn't be made
+pub carries_unmade : (promise : Type 0) (before now : World) → now.streams ≡ before.streams → Blames (Status.StoreFault ≡ Status.StoreFault) before.store.faults now.store.faults
+    → promise → Carries promise Status.StoreFault before now
+carries_unmade promise before now same store keeps =
+    record { keeps = keeps; blames = store_blames Status.StoreFault before now same (inr refl) store; used = λ usage. absurd (cc usage) }

@@ -1,10 +1,12 @@
 -- The line that says how a run ended, on the second output: this project's own. It ends with one newline byte.
-use Rattle.std.specs.Prelude.{ℕ, List, [], ◌++◌, Option, None, Some, codes}
+use Rattle.std.specs.Prelude.{ℕ, List, [], ◌++◌, codes}
 use Rattle.ae_nums.specs.Decimal.{decimal_text}
 use Rattle.ae_nums.specs.Hex.{hex8_text}
 use Rattle.ae_nums.specs.Trace.{newline}
 use Rattle.rv_code.specs.declared.ending.Ending.{Ending}
 use Rattle.rv_code.specs.declared.ending.Ending.TheVariants.{Exit, Illegal, Breakpoint, LoadFault, StoreFault, FetchFault, JumpMisaligned}
+use Rattle.rv_machine.specs.declared.outcome.Outcome.{Outcome}
+use Rattle.rv_machine.specs.declared.outcome.Outcome.TheVariants.{Ended, Spent}
 
 -- an exit code in decimal, words and addresses in eight hexadecimal digits
 abbrev pub ending_text : Ending → List ℕ
@@ -20,6 +22,6 @@ abbrev pub ending_line : Ending → List ℕ
 ending_line ending = ending_text ending ++ newline
 
 -- a run that hasn't ended has no such line
-abbrev pub line_of_end : Option Ending → List ℕ
-line_of_end None = []
-line_of_end (Some ending) = ending_line ending
+abbrev pub line_of_outcome : Outcome → List ℕ
+line_of_outcome (Ended ending) = ending_line ending
+line_of_outcome Spent = []

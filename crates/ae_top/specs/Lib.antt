@@ -1,12 +1,13 @@
+pub mod World
 pub mod Refusing
-pub mod Reading
+pub mod NoFile
 pub mod Task
 pub mod Status
 pub mod EndingLines
 pub mod StatusLines
-pub mod World
 pub mod Running
 pub mod Run
 pub mod Plain
 pub mod Printing
 pub mod Top
+pub mod Inner

@@ -1,6 +1,6 @@
 -- The line of a status on the second output, behind what the command gave: this project's own. It ends with one newline
 -- byte. A run that has ended has its ending's line, and no other.
-use Rattle.std.specs.Prelude.{◌≡◌, ◌⊎◌, ℕ, List, [], ◌++◌, Option, slice_index_or, codes}
+use Rattle.std.specs.Prelude.{◌≡◌, ◌⊎◌, ℕ, List, [], ◌++◌, Bool, true, false, MatchBool, slice_index_or, codes}
 use Rattle.ae_nums.specs.Decimal.{decimal_text}
 use Rattle.ae_nums.specs.Trace.{newline}
 use Rattle.ae_ports.specs.Content.{Appends, AppendsFront}
@@ -14,6 +14,7 @@ use Rattle.ae_top.specs.declared.refusal.Refusal.{Refusal}
 use Rattle.ae_top.specs.declared.refusal.Refusal.TheVariants.{Elf, Image}
 use Rattle.ae_top.specs.declared.status.Status.{Status}
 use Rattle.ae_top.specs.declared.status.Status.TheVariants.{Done, Usage, Missing, Refused, StoreFault, InputFault, OutFault, ErrFault, FuelSpent, Faulted, Memory}
+use Rattle.ae_top.specs.World.{Port}
 
 -- what a refusal says, before the place that it names
 abbrev pub refusal_text : Refusal → List ℕ
@@ -63,34 +64,24 @@ abbrev pub status_detail : List (List ℕ) → Status → List ℕ
 status_detail words (Missing word) = slice_index_or words word []
 status_detail words (FuelSpent steps) = decimal_text steps
 status_detail words (Refused refusal) = refusal_detail refusal
-status_detail words Done = []
-status_detail words Usage = []
-status_detail words StoreFault = []
-status_detail words InputFault = []
-status_detail words OutFault = []
-status_detail words ErrFault = []
-status_detail words (Faulted ending) = []
-status_detail words Memory = []
+status_detail words _ = []
 
 abbrev pub status_line : List (List ℕ) → Status → List ℕ
 status_line words status = status_text status ++ status_detail words status ++ newline
 
--- a sink got these bytes, or a front of them where its count of faults has risen
-abbrev pub Gets : (before now : Option (List ℕ)) → (faults_before faults_now : ℕ) → List ℕ → Type 0
-Gets before now faults_before faults_now bytes =
-    Appends before now bytes ⊎ (AppendsFront before now bytes × HasRisen faults_before faults_now)
+-- whether the status has a line of its own
+abbrev pub has_line : Status → Bool
+has_line Done = false
+has_line (Faulted ending) = false
+has_line _ = true
 
--- What the second output got behind what a command gave: nothing where it is done or its run ended, else the line of the
--- status, or a front of it where the count of faults rose.
-abbrev pub LineBehind : (words : List (List ℕ)) → Status → (middle now : Option (List ℕ)) → (faults_middle faults_now : ℕ) → Type 0
-LineBehind words Done middle now faults_middle faults_now = now ≡ middle
-LineBehind words (Faulted ending) middle now faults_middle faults_now = now ≡ middle
-LineBehind words Usage middle now faults_middle faults_now = Gets middle now faults_middle faults_now (status_line words Usage)
-LineBehind words (Missing word) middle now faults_middle faults_now = Gets middle now faults_middle faults_now (status_line words (Missing word))
-LineBehind words (Refused refusal) middle now faults_middle faults_now = Gets middle now faults_middle faults_now (status_line words (Refused refusal))
-LineBehind words StoreFault middle now faults_middle faults_now = Gets middle now faults_middle faults_now (status_line words StoreFault)
-LineBehind words InputFault middle now faults_middle faults_now = Gets middle now faults_middle faults_now (status_line words InputFault)
-LineBehind words OutFault middle now faults_middle faults_now = Gets middle now faults_middle faults_now (status_line words OutFault)
-LineBehind words ErrFault middle now faults_middle faults_now = Gets middle now faults_middle faults_now (status_line words ErrFault)
-LineBehind words (FuelSpent steps) middle now faults_middle faults_now = Gets middle now faults_middle faults_now (status_line words (FuelSpent steps))
-LineBehind words Memory middle now faults_middle faults_now = Gets middle now faults_middle faults_now (status_line words Memory)
+-- a sink got these bytes, or a front of them where its count of faults has risen
+abbrev pub GetsLine : (before now : Port (List ℕ)) → List ℕ → Type 0
+GetsLine before now bytes =
+    Appends before.told now.told bytes ⊎ (AppendsFront before.told now.told bytes × HasRisen before.faults now.faults)
+
+-- What the second output got behind what a command gave: the line of the status, or a front of it where the count of faults
+-- rose; and nothing at all where the status has none.
+abbrev pub LineBehind : (words : List (List ℕ)) → Status → (before now : Port (List ℕ)) → Type 0
+LineBehind words status before now =
+    MatchBool (has_line status) (GetsLine before now (status_line words status)) (now ≡ before)

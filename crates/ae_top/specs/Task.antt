@@ -7,13 +7,11 @@ use Rattle.ae_words.specs.declared.command.Command.TheVariants.{Run, Plain, Rewr
 use Rattle.ae_words.specs.Command.{command_of}
 use Rattle.ae_top.specs.declared.task.Kind.TheVariants.{Elf, Code}
 use Rattle.ae_top.specs.declared.task.Task.{Task}
+use Rattle.ae_top.specs.declared.task.TheConstants.{DEFAULT_FUEL}
 
--- the steps that a run may take where no fuel is given
-abbrev pub default_fuel : ℕ
-default_fuel = 1000000000
-
+-- the steps that a run may take
 abbrev pub fuel_of : Option ℕ → ℕ
-fuel_of None = default_fuel
+fuel_of None = DEFAULT_FUEL
 fuel_of (Some fuel) = fuel
 
 -- what a command asks for, with the places of its file words among all words

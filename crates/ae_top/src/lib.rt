@@ -3,7 +3,9 @@
 #![tactic(auto)]
 
 mod ending_lines;
+mod exit;
 mod finishing;
+mod no_file;
 mod plain;
 mod printing;
 mod program;
@@ -18,6 +20,7 @@ mod task;
 mod tests;
 mod top;
 
+pub use exit::exit_code;
 pub use refusal::Refusal;
 pub use status::Status;
 pub use top::ae;

@@ -2,7 +2,7 @@
 ghost use Rattle.std.specs.Prelude.{◌≡◌, ℕ, ◌+◌, ◌<◌, ◌≤◌, length, take, IfOk, IsErrOf};
 ghost use Rattle.ae_ports.specs.Fault.{HasRisen, HasCause};
 ghost use Rattle.ae_ports.specs.Files.{IsThere, SameFiles};
-ghost use Rattle.ae_top.specs.Reading.{IsRead, EndsBy};
+ghost use Rattle.ae_top.specs.Inner.Reading.{IsRead, EndsBy};
 
 use ae_ports::{Failed, Store, Word};
 use std::alloc::Global;

@@ -1,16 +1,16 @@
 //! The command `run PROG`.
-ghost use Rattle.std.specs.Prelude.{◌≡◌, ◌≢◌, ℕ, ◌≤◌, List, Some, None};
-ghost use Rattle.ae_ports.specs.Fault.{HasRisen};
-ghost use Rattle.rv_machine.specs.Outcomes.{run_in};
+ghost use Rattle.std.specs.Prelude.{◌≡◌, ◌≢◌, None, Err};
+ghost use Rattle.ae_top.specs.Inner.Command.{Carries};
+ghost use Rattle.ae_top.specs.Inner.Machine.{RanMachine};
 ghost use Rattle.ae_top.specs.Run.{KeepsRun};
-ghost use Rattle.ae_top.specs.Running.{RanAs, ShowsEnd, IsUnrun};
-ghost use Rattle.ae_top.specs.World.{HasCauses, HasStreamCauses};
+ghost use Rattle.ae_top.specs.World.{port, streams, world};
 
 use crate::Status;
-use crate::finishing::finish;
-use crate::program::load_program;
-use ae_ports::{Sink, Source, Store, Word};
-use rv_machine::{Dropped, Machine};
+use crate::finishing::{status_of, tell_end};
+use crate::no_file::status_without;
+use crate::program::{Wanted, load_program};
+use ae_ports::{Dropped, Sink, Source, Store, Word};
+use rv_machine::{Machine, MachineFault, Outcome};
 use std::alloc::Global;
 
 /// Runs a machine that stands before its first step, and gives the second output the line of its ending.
@@ -20,21 +20,20 @@ fn run_machine<I: Source, O: Sink, P: Sink>(
     input: &mut I,
     out: &mut O,
     err: &mut P,
-) -> Status
+) -> Result<Outcome, MachineFault>
     requires { machine.old.kept ≡ None }
-    ensures ran { (bytes : List ℕ) → I.told input.old ≡ Some bytes → RanAs result fuel (run_in machine.old bytes fuel)
-        (record { input = I.told input.old; out = O.told out.old; err = P.told err.old })
-        (record { input = I.told input.new; out = O.told out.new; err = P.told err.new }) }
-    ensures run { IsUnrun result → ⊥ }
-    ensures no_store { result ≢ Status.StoreFault }
-    ensures shows { ShowsEnd result fuel (P.told err.old) (P.told err.new) }
-    ensures causes { HasStreamCauses result (I.faults input.old) (I.faults input.new) (O.faults out.old) (O.faults out.new) (P.faults err.old) (P.faults err.new) }
+    ensures ran { let before = streams (port (I.told input.old) (I.faults input.old))
+        (port (O.told out.old) (O.faults out.old)) (port (P.told err.old) (P.faults err.old)) in
+        let now = streams (port (I.told input.new) (I.faults input.new))
+        (port (O.told out.new) (O.faults out.new)) (port (P.told err.new) (P.faults err.new)) in
+        RanMachine machine.old fuel result before now }
+    ensures served { result ≢ Err MachineFault.EventFault }
     ensures input { I.same_rest input.old input.new }
     ensures out { O.same_rest out.old out.new }
     ensures err { P.same_rest err.old err.new }
 {
-    let answer = machine.run(fuel, input, out, err, &mut Dropped);
-    finish(answer, fuel, err)
+    let outcome = machine.run(fuel, input, out, err, &mut Dropped)?;
+    tell_end(outcome, err)
 }
 
 /// Runs the executable that the store has under this name, which is the word at the place `prog`, for at most `fuel`
@@ -51,20 +50,20 @@ pub fn run<S: Store, I: Source, O: Sink, P: Sink>(
     out: &mut O,
     err: &mut P,
 ) -> Status
-    ensures keeps { KeepsRun prog name.now fuel result
-        (record { files = S.told store.old; streams = record { input = I.told input.old; out = O.told out.old; err = P.told err.old }; counts = record { store = S.faults store.old; input = I.faults input.old; out = O.faults out.old; err = P.faults err.old } })
-        (record { files = S.told store.new; streams = record { input = I.told input.new; out = O.told out.new; err = P.told err.new }; counts = record { store = S.faults store.new; input = I.faults input.new; out = O.faults out.new; err = P.faults err.new } }) }
-    ensures causes { HasCauses result
-        (record { store = S.faults store.old; input = I.faults input.old; out = O.faults out.old; err = P.faults err.old })
-        (record { store = S.faults store.new; input = I.faults input.new; out = O.faults out.new; err = P.faults err.new }) }
-    ensures used { result ≢ Status.Usage }
+    ensures keeps { let before = world (port (S.told store.old) (S.faults store.old))
+        (port (I.told input.old) (I.faults input.old)) (port (O.told out.old) (O.faults out.old))
+        (port (P.told err.old) (P.faults err.old)) in
+        let now = world (port (S.told store.new) (S.faults store.new))
+        (port (I.told input.new) (I.faults input.new)) (port (O.told out.new) (O.faults out.new))
+        (port (P.told err.new) (P.faults err.new)) in
+        Carries (KeepsRun prog name.now fuel result before now) result before now }
     ensures store { S.same_rest store.old store.new }
     ensures input { I.same_rest input.old input.new }
     ensures out { O.same_rest out.old out.new }
     ensures err { P.same_rest err.old err.new }
 {
-    match load_program(alloc, store, name, prog) {
-        Ok(mut machine) => run_machine(&mut machine, fuel, input, out, err),
-        Err(status) => status,
+    match load_program(alloc, store, name, Wanted::Any) {
+        Ok(mut machine) => status_of(fuel, run_machine(&mut machine, fuel, input, out, err)),
+        Err(why) => status_without(why, prog),
     }
 }

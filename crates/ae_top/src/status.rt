@@ -1,5 +1,5 @@
 ghost use Rattle.std.specs.Prelude.{◌≡◌};
-ghost use Rattle.ae_top.specs.Status.{code_of};
+ghost use Rattle.ae_top.specs.Status.{exit_code_of};
 
 use crate::Refusal;
 use rv_code::Ending;
@@ -34,7 +34,7 @@ pub enum Status {
 impl Status {
     /// The exit code of the program.
     pub fn code(&self) -> u8
-        ensures { result ≡ code_of self.now }
+        ensures { result ≡ exit_code_of self.now }
     {
         match self {
             Status::Done => 0,

@@ -3,7 +3,8 @@ ghost use Rattle.std.specs.Prelude.{◌≡◌, ◌≤◌, ◌++◌, [], slice_in
 ghost use Rattle.ae_nums.specs.Trace.{newline};
 ghost use Rattle.ae_ports.specs.Content.{Appends, AppendsFront};
 ghost use Rattle.ae_ports.specs.Fault.{HasCause};
-ghost use Rattle.ae_top.specs.StatusLines.{status_text, status_detail, status_line, Gets};
+ghost use Rattle.ae_top.specs.StatusLines.{status_text, status_detail, status_line, GetsLine};
+ghost use Rattle.ae_top.specs.World.{port};
 
 use crate::Status;
 use crate::refusal_lines::{digits_of, refusal_detail, refusal_text};
@@ -22,7 +23,7 @@ fn write_line<K: Sink>(sink: &mut K, text: &[u8], detail: &[u8]) -> Result<(), F
 }
 
 /// The fixed part of a status' line.
-fn text_of(status: Status) -> &'static [u8]
+fn fixed_text(status: Status) -> &'static [u8]
     ensures { result.now ≡ status_text status }
 {
     match status {
@@ -56,7 +57,7 @@ fn write_status<K: Sink>(sink: &mut K, words: &[Word], status: Status) -> Result
     ensures cause { HasCause (K.faults sink.old) (K.faults sink.new) result }
     ensures rest { K.same_rest sink.old sink.new }
 {
-    let text = text_of(status);
+    let text = fixed_text(status);
     match status {
         Status::Missing { word } => write_line(sink, text, word_at(words, word)),
         Status::FuelSpent { steps } => write_line(sink, text, digits_of(steps).bytes()),
@@ -67,7 +68,8 @@ fn write_status<K: Sink>(sink: &mut K, words: &[Word], status: Status) -> Result
 
 /// Writes the line of a status. Whether this can be done changes nothing.
 pub fn tell<K: Sink>(sink: &mut K, words: &[Word], status: Status)
-    ensures line { Gets (K.told sink.old) (K.told sink.new) (K.faults sink.old) (K.faults sink.new) (status_line words.now status) }
+    ensures line { GetsLine (port (K.told sink.old) (K.faults sink.old)) (port (K.told sink.new) (K.faults sink.new))
+        (status_line words.now status) }
     ensures later { K.faults sink.old ≤ K.faults sink.new }
     ensures rest { K.same_rest sink.old sink.new }
 {

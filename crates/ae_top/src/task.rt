@@ -5,7 +5,7 @@ use ae_ports::Word;
 use ae_words::{Command, read_words};
 
 /// The steps that a run may take where no fuel is given.
-const DEFAULT_FUEL: u64 = 1_000_000_000;
+pub const DEFAULT_FUEL: u64 = 1_000_000_000;
 
 /// What `print` prints of a file.
 #[derive(Clone, Copy, Debug, PartialEq, Eq)]

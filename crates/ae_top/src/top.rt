@@ -1,9 +1,6 @@
 //! The top call.
-ghost use Rattle.std.specs.Prelude.{◌≡◌, ◌≢◌, ◌≤◌, ◌↔◌, None};
-ghost use Rattle.ae_ports.specs.Fault.{HasRisen};
-ghost use Rattle.ae_top.specs.Task.{task_in};
-ghost use Rattle.ae_top.specs.Top.{Promises, Keeps};
-ghost use Rattle.ae_top.specs.World.{HasCauses};
+ghost use Rattle.ae_top.specs.Top.{Answers, CarriesOut};
+ghost use Rattle.ae_top.specs.World.{port, world};
 
 use crate::Status;
 use crate::plain::plain;
@@ -30,23 +27,18 @@ pub fn ae<S: Store, I: Source, O: Sink, P: Sink>(
     out: &mut O,
     err: &mut P,
 ) -> Status
-    ensures usage { (result ≡ Status.Usage) ↔ (task_in words.now ≡ None) }
-    // What is promised of the command, and the line on the second output.
-    ensures promise { Promises (task_in words.now) words.now result
-        (record { files = S.told store.old; streams = record { input = I.told input.old; out = O.told out.old; err = P.told err.old }; counts = record { store = S.faults store.old; input = I.faults input.old; out = O.faults out.old; err = P.faults err.old } })
-        (record { files = S.told store.new; streams = record { input = I.told input.new; out = O.told out.new; err = P.told err.new }; counts = record { store = S.faults store.new; input = I.faults input.new; out = O.faults out.new; err = P.faults err.new } }) }
-
-    // A device's fault comes only where that device's count rose in this call.
-    ensures store_fault { result ≡ Status.StoreFault → HasRisen (S.faults store.old) (S.faults store.new) }
-    ensures input_fault { result ≡ Status.InputFault → HasRisen (I.faults input.old) (I.faults input.new) }
-    ensures out_fault { result ≡ Status.OutFault → HasRisen (O.faults out.old) (O.faults out.new) }
-    ensures err_fault { result ≡ Status.ErrFault → HasRisen (P.faults err.old) (P.faults err.new) }
-
+    ensures answers { let before = world (port (S.told store.old) (S.faults store.old))
+        (port (I.told input.old) (I.faults input.old)) (port (O.told out.old) (O.faults out.old))
+        (port (P.told err.old) (P.faults err.old)) in
+        let now = world (port (S.told store.new) (S.faults store.new))
+        (port (I.told input.new) (I.faults input.new)) (port (O.told out.new) (O.faults out.new))
+        (port (P.told err.new) (P.faults err.new)) in
+        Answers words.now result before now }
     // What each device was made with and stands on is as before.
-    ensures store_rest { S.same_rest store.old store.new }
-    ensures input_rest { I.same_rest input.old input.new }
-    ensures out_rest { O.same_rest out.old out.new }
-    ensures err_rest { P.same_rest err.old err.new }
+    ensures store { S.same_rest store.old store.new }
+    ensures input { I.same_rest input.old input.new }
+    ensures out { O.same_rest out.old out.new }
+    ensures err { P.same_rest err.old err.new }
 {
     let status = carry_out(alloc, words, store, input, out, err);
     match status {
@@ -65,15 +57,17 @@ fn carry_out<S: Store, I: Source, O: Sink, P: Sink>(
     out: &mut O,
     err: &mut P,
 ) -> Status
-    ensures usage { (result ≡ Status.Usage) ↔ (task_in words.now ≡ None) }
-    ensures keeps { Keeps (task_in words.now) words.now result
-        (record { files = S.told store.old; streams = record { input = I.told input.old; out = O.told out.old; err = P.told err.old }; counts = record { store = S.faults store.old; input = I.faults input.old; out = O.faults out.old; err = P.faults err.old } })
-        (record { files = S.told store.new; streams = record { input = I.told input.new; out = O.told out.new; err = P.told err.new }; counts = record { store = S.faults store.new; input = I.faults input.new; out = O.faults out.new; err = P.faults err.new } }) }
-    ensures causes { HasCauses result (record { store = S.faults store.old; input = I.faults input.old; out = O.faults out.old; err = P.faults err.old }) (record { store = S.faults store.new; input = I.faults input.new; out = O.faults out.new; err = P.faults err.new }) }
-    ensures store_rest { S.same_rest store.old store.new }
-    ensures input_rest { I.same_rest input.old input.new }
-    ensures out_rest { O.same_rest out.old out.new }
-    ensures err_rest { P.same_rest err.old err.new }
+    ensures carries { let before = world (port (S.told store.old) (S.faults store.old))
+        (port (I.told input.old) (I.faults input.old)) (port (O.told out.old) (O.faults out.old))
+        (port (P.told err.old) (P.faults err.old)) in
+        let now = world (port (S.told store.new) (S.faults store.new))
+        (port (I.told input.new) (I.faults input.new)) (port (O.told out.new) (O.faults out.new))
+        (port (P.told err.new) (P.faults err.new)) in
+        CarriesOut words.now result before now }
+    ensures store { S.same_rest store.old store.new }
+    ensures input { I.same_rest input.old input.new }
+    ensures out { O.same_rest out.old out.new }
+    ensures err { P.same_rest err.old err.new }
 {
     match read_task(words) {
         Some(Task::Run { prog, fuel }) => run(

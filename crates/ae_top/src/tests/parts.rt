@@ -1,13 +1,14 @@
-//! The parts of the top call: lines, codes, and what takes memory, each once with ample memory.
+//! The lines and codes of all statuses, and a file that is shorter than its size says.
 
-use super::outside::{NO_FAILS, holds, made_outside, words_in};
-use super::row_files::{EXIT_SEVEN, file_of};
+ghost use Rattle.std.specs.Prelude.{IfOk, IsSome};
+ghost use Rattle.ae_ports.specs.Named.{file_named};
+
+use super::{holds, words_in};
 use crate::ending_lines::line_of_ending;
-use crate::program::{load_original, load_program};
 use crate::reading::read_file;
 use crate::status_lines::tell;
 use crate::{Refusal, Status};
-use ae_ports::MemorySink;
+use ae_ports::{MemorySink, MemoryStore, Word};
 use elf_image::{ImageFault, Over};
 use elf_raw::ElfFault;
 use rv_code::Ending;
@@ -102,10 +103,20 @@ fn codes_and_lines(rt: HostRuntime) -> Result<(), Fail> {
     Ok(())
 }
 
-/// The file `P` of a store, read with this size.
+/// A store with a file of these bytes.
+fn store_of(alloc: Global, name: Word, bytes: &[u8]) -> Result<MemoryStore, AllocError>
+    ensures { IfOk result (λ store. IsSome (file_named store.files name)) }
+{
+    let mut store = MemoryStore::new(alloc, Vec::new(alloc));
+    store.put(name, bytes.to_vec(alloc)?)?;
+    Ok(store)
+}
+
+/// A file of a store, read with this size.
 fn read_back(alloc: Global, file: &[u8], size: usize) -> Result<Vec<u8>, AllocError> {
-    let mut outside = made_outside(alloc, file, None, b"", NO_FAILS)?;
-    match read_file(alloc, &mut outside.store, &outside.prog, size) {
+    let name = Word::from_bytes(alloc, b"P")?;
+    let mut store = store_of(alloc, Word::from_bytes(alloc, b"P")?, file)?;
+    match read_file(alloc, &mut store, &name, size) {
         Ok(bytes) => Ok(bytes),
         Err(_) => Err(AllocError),
     }
@@ -114,27 +125,11 @@ fn read_back(alloc: Global, file: &[u8], size: usize) -> Result<Vec<u8>, AllocEr
 #[test]
 fn reads_a_file(rt: HostRuntime) -> Result<(), Fail> {
     let alloc = rt.alloc();
-    let file = file_of(alloc, &EXIT_SEVEN)?;
+    let file = [7u8; 208];
     // a size that was said, and the size that is read
     for (said, size) in [(0, 0), (1, 1), (208, 208), (500, 208)] {
         let bytes = read_back(alloc, &file, said)?;
         holds(&rt, said, Some(bytes.as_slice()) == file.get(..size));
-    }
-    Ok(())
-}
-
-#[test]
-fn loads_programs(rt: HostRuntime) -> Result<(), Fail> {
-    let alloc = rt.alloc();
-    for count in [1, 3, 1000, 32_768] {
-        let code = vec![in alloc; 0x0000_0013; count]?;
-        let file = file_of(alloc, &code)?;
-        holds(&rt, count, file.len() == 196 + 4 * count);
-        let mut outside = made_outside(alloc, &file, None, b"", NO_FAILS)?;
-        let loaded = load_program(alloc, &mut outside.store, &outside.prog, 1);
-        holds(&rt, count, loaded.is_ok());
-        let original = load_original(alloc, &mut outside.store, &outside.prog, 1);
-        holds(&rt, count, original.is_ok());
     }
     Ok(())
 }

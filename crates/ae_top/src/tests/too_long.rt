@@ -1,7 +1,7 @@
 //! Files that are too long to be read.
 ghost use Rattle.std.specs.Prelude.{None};
 
-use super::outside::{holds, words_in};
+use super::{holds, words_in};
 use crate::{Refusal, Status, ae};
 use ae_ports::{Failed, MemorySink, SteadySource, Store, Word};
 use elf_image::{ImageFault, Over};

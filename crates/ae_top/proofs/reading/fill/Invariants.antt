@@ -1,6 +1,6 @@
 use Rattle.std.proofs.Common.{◌≡◌, ◌≤◌, ◌-◌, length, take}
 use Rattle.ae_ports.specs.Files.{SameFiles}
-use Rattle.ae_top.specs.Reading.{IsRead}
+use Rattle.ae_top.specs.Inner.Reading.{IsRead}
 use Rattle.ae_top.proofs.reading.fill.Given as goal
 
 abbrev pub invariant-loop-got : goal.invariant-loop-got

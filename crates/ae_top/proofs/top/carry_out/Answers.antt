@@ -1,9 +1,9 @@
-use Rattle.std.proofs.Common.{◌≡◌, ◌<◌, [], length, Some, ap, sym, ◌∙◌, refl}
+use Rattle.std.proofs.Common.{◌≡◌, ◌<◌, [], length, Some, ap, sym, ◌∙◌}
 use Rattle.std.proofs.lemmas.List.{get_or_read}
 use Rattle.ae_top.specs.declared.task.Task.TheVariants.{Run, Plain, Print}
 use Rattle.ae_top.specs.Task.{task_in}
-use Rattle.ae_top.specs.World.{World}
-use Rattle.ae_top.proofs.KeptTop.{run_kept, plain_kept, print_kept}
+use Rattle.ae_top.specs.World.{World, port, world}
+use Rattle.ae_top.proofs.KeptTop.{run_carried, plain_carried, print_carried}
 use Rattle.ae_top.proofs.Named.{run_named_word, plain_named_words, print_named_word}
 use Rattle.ae_top.proofs.top.carry_out.Goals as goal
 
@@ -24,27 +24,26 @@ bounds-words-trace g c =
     let is : task_in c.args.words.now ≡ Some (Plain task.prog task.trace task.fuel) = sym c.read_task.ensures ∙ task.is ∙ ap Some task.field-0-is in
     (plain_named_words c.args.words.now task.prog task.trace task.fuel is).1
 
-pub returns-in-Some-Run-clause-keeps : goal.returns-in-Some-Run-clause-keeps
-returns-in-Some-Run-clause-keeps g c =
+pub bounds-words-file : goal.bounds-words-file
+bounds-words-file g c =
+    let is : task_in c.args.words.now ≡ Some (Print c.in-Some-Print.kind c.in-Some-Print.file) = sym c.read_task.ensures ∙ c.in-Some-Print.is ∙ ap Some c.in-Some-Print.field-0-is in
+    print_named_word c.args.words.now c.in-Some-Print.kind c.in-Some-Print.file is
+
+pub returns-in-Some-Run-clause-carries : goal.returns-in-Some-Run-clause-carries
+returns-in-Some-Run-clause-carries g c =
     let words = c.args.words.now in
     let task = c.in-Some-Run in
     let is : task_in words ≡ Some (Run task.prog task.fuel) = sym c.read_task.ensures ∙ task.is ∙ ap Some task.field-0-is in
     let within : task.prog < length words = run_named_word words task.prog task.fuel is in
     let named = get_or_read words task.prog c.index-words-prog.result within c.index-words-prog.is [] in
-    let before : World = record {
-      files = g.S.Store.told c.args.store.now;
-      streams = record { input = g.I.Source.told c.args.input.now; out = g.O.Sink.told c.args.out.now; err = g.P.Sink.told c.args.err.now };
-      counts = record { store = g.S.Store.faults c.args.store.now; input = g.I.Source.faults c.args.input.now; out = g.O.Sink.faults c.args.out.now; err = g.P.Sink.faults c.args.err.now };
-    } in
-    let now : World = record {
-      files = g.S.Store.told c.run.new.store;
-      streams = record { input = g.I.Source.told c.run.new.input; out = g.O.Sink.told c.run.new.out; err = g.P.Sink.told c.run.new.err };
-      counts = record { store = g.S.Store.faults c.run.new.store; input = g.I.Source.faults c.run.new.input; out = g.O.Sink.faults c.run.new.out; err = g.P.Sink.faults c.run.new.err };
-    } in
-    run_kept (task_in words) words task.prog task.fuel c.index-words-prog.result c.run.result before now is named c.run.ensures.keeps
+    let before : World = world (port (g.S.Store.told c.args.store.now) (g.S.Store.faults c.args.store.now)) (port (g.I.Source.told c.args.input.now) (g.I.Source.faults c.args.input.now))
+    (port (g.O.Sink.told c.args.out.now) (g.O.Sink.faults c.args.out.now)) (port (g.P.Sink.told c.args.err.now) (g.P.Sink.faults c.args.err.now)) in
+    let now : World = world (port (g.S.Store.told c.run.new.store) (g.S.Store.faults c.run.new.store)) (port (g.I.Source.told c.run.new.input) (g.I.Source.faults c.run.new.input))
+    (port (g.O.Sink.told c.run.new.out) (g.O.Sink.faults c.run.new.out)) (port (g.P.Sink.told c.run.new.err) (g.P.Sink.faults c.run.new.err)) in
+    run_carried words task.prog task.fuel c.index-words-prog.result c.run.result before now is named c.run.ensures.keeps
 
-pub returns-in-Some-Plain-clause-keeps : goal.returns-in-Some-Plain-clause-keeps
-returns-in-Some-Plain-clause-keeps g c =
+pub returns-in-Some-Plain-clause-carries : goal.returns-in-Some-Plain-clause-carries
+returns-in-Some-Plain-clause-carries g c =
     let words = c.args.words.now in
     let task = c.in-Some-Plain in
     let is : task_in words ≡ Some (Plain task.prog task.trace task.fuel) = sym c.read_task.ensures ∙ task.is ∙ ap Some task.field-0-is in
@@ -53,47 +52,22 @@ returns-in-Some-Plain-clause-keeps g c =
     let trace = c.index-words-trace in
     let named = get_or_read words task.prog prog.result within.0 prog.is [] in
     let traced = get_or_read words task.trace trace.result within.1 trace.is [] in
-    let before : World = record {
-      files = g.S.Store.told c.args.store.now;
-      streams = record { input = g.I.Source.told c.args.input.now; out = g.O.Sink.told c.args.out.now; err = g.P.Sink.told c.args.err.now };
-      counts = record { store = g.S.Store.faults c.args.store.now; input = g.I.Source.faults c.args.input.now; out = g.O.Sink.faults c.args.out.now; err = g.P.Sink.faults c.args.err.now };
-    } in
-    let now : World = record {
-      files = g.S.Store.told c.plain.new.store;
-      streams = record { input = g.I.Source.told c.plain.new.input; out = g.O.Sink.told c.plain.new.out; err = g.P.Sink.told c.plain.new.err };
-      counts = record { store = g.S.Store.faults c.plain.new.store; input = g.I.Source.faults c.plain.new.input; out = g.O.Sink.faults c.plain.new.out; err = g.P.Sink.faults c.plain.new.err };
-    } in
-    plain_kept (task_in words) words task.prog task.trace task.fuel prog.result trace.result c.plain.result before now is named traced c.plain.ensures.keeps
+    let before : World = world (port (g.S.Store.told c.args.store.now) (g.S.Store.faults c.args.store.now)) (port (g.I.Source.told c.args.input.now) (g.I.Source.faults c.args.input.now))
+    (port (g.O.Sink.told c.args.out.now) (g.O.Sink.faults c.args.out.now)) (port (g.P.Sink.told c.args.err.now) (g.P.Sink.faults c.args.err.now)) in
+    let now : World = world (port (g.S.Store.told c.plain.new.store) (g.S.Store.faults c.plain.new.store)) (port (g.I.Source.told c.plain.new.input) (g.I.Source.faults c.plain.new.input))
+    (port (g.O.Sink.told c.plain.new.out) (g.O.Sink.faults c.plain.new.out)) (port (g.P.Sink.told c.plain.new.err) (g.P.Sink.faults c.plain.new.err)) in
+    plain_carried words task.prog task.trace task.fuel prog.result trace.result c.plain.result before now is named traced c.plain.ensures.keeps
 
-pub bounds-words-file : goal.bounds-words-file
-bounds-words-file g c =
-    let is : task_in c.args.words.now ≡ Some (Print c.in-Some-Print.kind c.in-Some-Print.file) = sym c.read_task.ensures ∙ c.in-Some-Print.is ∙ ap Some c.in-Some-Print.field-0-is in
-    print_named_word c.args.words.now c.in-Some-Print.kind c.in-Some-Print.file is
-
-pub returns-in-Some-Print-clause-keeps : goal.returns-in-Some-Print-clause-keeps
-returns-in-Some-Print-clause-keeps g c =
+pub returns-in-Some-Print-clause-carries : goal.returns-in-Some-Print-clause-carries
+returns-in-Some-Print-clause-carries g c =
     let words = c.args.words.now in
     let task = c.in-Some-Print in
     let is : task_in words ≡ Some (Print task.kind task.file) = sym c.read_task.ensures ∙ task.is ∙ ap Some task.field-0-is in
     let within : task.file < length words = print_named_word words task.kind task.file is in
     let named = get_or_read words task.file c.index-words-file.result within c.index-words-file.is [] in
-    let before : World = record {
-      files = g.S.Store.told c.args.store.now;
-      streams = record { input = g.I.Source.told c.args.input.now; out = g.O.Sink.told c.args.out.now; err = g.P.Sink.told c.args.err.now };
-      counts = record { store = g.S.Store.faults c.args.store.now; input = g.I.Source.faults c.args.input.now; out = g.O.Sink.faults c.args.out.now; err = g.P.Sink.faults c.args.err.now };
-    } in
-    let now : World = record {
-      files = g.S.Store.told c.print.new.store;
-      streams = record { input = g.I.Source.told c.args.input.now; out = g.O.Sink.told c.print.new.out; err = g.P.Sink.told c.args.err.now };
-      counts = record { store = g.S.Store.faults c.print.new.store; input = g.I.Source.faults c.args.input.now; out = g.O.Sink.faults c.print.new.out; err = g.P.Sink.faults c.args.err.now };
-    } in
-    print_kept (task_in words) words task.kind task.file c.index-words-file.result c.print.result before now is named
-    (record {
-      says = c.print.ensures.says;
-      out = c.print.ensures.same;
-      input = refl;
-      err = refl;
-      only = c.print.ensures.only;
-      files = c.print.ensures.files;
-      store = c.print.ensures.store_count;
-    })
+    let before : World = world (port (g.S.Store.told c.args.store.now) (g.S.Store.faults c.args.store.now)) (port (g.I.Source.told c.args.input.now) (g.I.Source.faults c.args.input.now))
+    (port (g.O.Sink.told c.args.out.now) (g.O.Sink.faults c.args.out.now)) (port (g.P.Sink.told c.args.err.now) (g.P.Sink.faults c.args.err.now)) in
+    let now : World = world (port (g.S.Store.told c.print.new.store) (g.S.Store.faults c.print.new.store)) (port (g.I.Source.told c.args.input.now) (g.I.Source.faults c.args.input.now))
+    (port (g.O.Sink.told c.print.new.out) (g.O.Sink.faults c.print.new.out)) (port (g.P.Sink.told c.args.err.now) (g.P.Sink.faults c.args.err.now)) in
+    print_carried words task.kind task.file c.index-words-file.result c.print.result before now is named
+    (c.print.ensures.keeps before.streams.input before.streams.err)
