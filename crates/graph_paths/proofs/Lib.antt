@@ -1,0 +1,4 @@
+pub mod LawsOfPaths
+pub mod LawsOfForests
+pub mod LawsOfTrails
+pub mod LawsOfWeights
