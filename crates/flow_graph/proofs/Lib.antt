@@ -1,0 +1,16 @@
+mod Among
+mod Counted
+mod Ends
+mod Few
+mod Followed
+mod LawsOfBlocks
+mod LawsOfEdges
+mod Leaving
+mod Marked
+mod Named
+mod Numbered
+mod Paired
+mod Runs
+mod Targets
+mod Turns
+mod Whole

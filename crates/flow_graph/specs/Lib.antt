@@ -1,0 +1,10 @@
+pub mod CodeParts
+pub mod Marks
+pub mod Leaders
+pub mod Blocks
+pub mod Numbers
+pub mod Edges
+pub mod Laws
+pub mod RoutineNames
+pub mod Flow
+pub mod GraphView
