@@ -6,6 +6,7 @@ use rv_code::Extent;
 
 /// Whether a code word stands at the address. `near` is the place of the extent where the last one was found, which is
 /// tested first.
+#[inline(always)]
 pub(crate) fn finds_code(code: &[Extent], near: &mut usize, address: u32) -> bool
     ensures { result ≡ is_code code.now address }
 {

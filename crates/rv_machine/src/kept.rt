@@ -44,6 +44,7 @@ pub(crate) fn kept_by_run(
 }
 
 /// What a step answers that fetched at this pc, and whose instruction did this.
+#[inline(always)]
 pub(crate) fn step_with(pc: u32, acted: Result<Acted, MachineFault>) -> Result<Step, MachineFault>
     ensures { result ≡ step_with pc acted }
 {

@@ -86,6 +86,7 @@ impl Machine {
     }
 
     /// The word at the pc, `None` where no code word stands there.
+    #[inline(always)]
     fn fetch(&mut self) -> Option<u32>
         ensures word { (outside : Outside) → result ≡ fetched (program_in self.old) (state_of self.old outside) }
         ensures same { self.new ≡ self.old }
@@ -98,6 +99,7 @@ impl Machine {
     }
 
     /// The value of a register.
+    #[inline(always)]
     fn register(&self, number: u8) -> u32
         requires { number < 32 }
         ensures { result ≡ register_of self.now.registers number }
@@ -106,6 +108,7 @@ impl Machine {
     }
 
     /// Puts a value into a register.
+    #[inline(always)]
     fn set(&mut self, number: u8, value: u32)
         requires { number < 32 }
         ensures { self.new ≡ record self.old { registers = with_register self.old.registers number value } }
@@ -116,6 +119,7 @@ impl Machine {
     }
 
     /// Goes on to the next word.
+    #[inline(always)]
     fn go_on(&mut self)
         ensures { self.new ≡ record self.old { pc = wrap (self.old.pc + 4) } }
     {
@@ -123,6 +127,7 @@ impl Machine {
     }
 
     /// Puts a value into a register, and goes on to the next word.
+    #[inline(always)]
     fn set_and_go_on(&mut self, number: u8, value: u32)
         requires { number < 32 }
         ensures { self.new ≡ record self.old { pc = wrap (self.old.pc + 4); registers = with_register self.old.registers number value } }
@@ -132,6 +137,7 @@ impl Machine {
     }
 
     /// One step, whatever the machine keeps.
+    #[inline(always)]
     fn advance<I: Source, O: Sink, P: Sink, Q: Sink>(
         &mut self,
         input: &mut I,
@@ -165,6 +171,7 @@ impl Machine {
     }
 
     /// One step, whatever the machine keeps, and its items given to a taker. It answers the ending that it comes to.
+    #[inline(always)]
     fn turn<I: Source, O: Sink, P: Sink, Q: Sink, K: Taker>(
         &mut self,
         input: &mut I,

@@ -10,6 +10,7 @@ use ae_nums::{Item, Taker};
 use ae_ports::Failed;
 
 /// The item of a step's fetch.
+#[inline(always)]
 fn fetch_in(seen: Seen) -> Option<Item>
     ensures { result ≡ option_map Item.Fetch seen.fetch }
 {
@@ -20,6 +21,7 @@ fn fetch_in(seen: Seen) -> Option<Item>
 }
 
 /// Gives a taker an item, if there is one.
+#[inline(always)]
 fn take_some<K: Taker>(items: &mut K, item: Option<Item>) -> Result<(), Failed>
     ensures all { OnOk result (K.took items.old items.new (option_to_list item)) }
     ensures front { OnErr result (TookFront (K.took items.old items.new) (option_to_list item)) }
@@ -33,6 +35,7 @@ fn take_some<K: Taker>(items: &mut K, item: Option<Item>) -> Result<(), Failed>
 }
 
 /// Gives a taker the items of a step. After `Failed` it has taken a front of them.
+#[inline(always)]
 fn take_seen<K: Taker>(items: &mut K, seen: Seen) -> Result<(), Failed>
     ensures all { OnOk result (K.took items.old items.new (items_in seen)) }
     ensures front { OnErr result (TookFront (K.took items.old items.new) (items_in seen)) }
@@ -44,6 +47,7 @@ fn take_seen<K: Taker>(items: &mut K, seen: Seen) -> Result<(), Failed>
 }
 
 /// The same, with a failure as the machine's fault.
+#[inline(always)]
 pub(crate) fn give_items<K: Taker>(items: &mut K, seen: Seen) -> Result<(), MachineFault>
     ensures all { OnOk result (K.took items.old items.new (items_in seen)) }
     ensures front { OnErr result (TookFront (K.took items.old items.new) (items_in seen)) }

@@ -14,6 +14,7 @@ impl Taker for Untraced {
 
     ghost same_rest = { λ _ _. ⊤ };
 
+    #[inline(always)]
     fn take(&mut self, _item: Item) -> Result<(), Failed> {
         Ok(())
     }

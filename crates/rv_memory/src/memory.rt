@@ -49,6 +49,7 @@ impl Memory {
     /// # Errors
     ///
     /// The first address of them where nothing is mapped.
+    #[inline(always)]
     pub fn read(&self, address: u32, size: u8) -> Result<u32, Hole>
         requires { (size ≡ 1) ⊎ ((size ≡ 2) ⊎ (size ≡ 4)) }
         ensures answer { result ≡ read_at (memory_of self.now) address size }
@@ -59,6 +60,7 @@ impl Memory {
 
     /// The number of the four bytes from an address on, the lowest first. A byte that isn't mapped counts as 0. `near` is
     /// the number of the region where the last ones were found, which is looked at first.
+    #[inline(always)]
     pub fn word(&self, near: &mut usize, address: u32) -> u32
         ensures { result ≡ number_of (bytes_at (memory_of self.now) (span address 4)) }
     {
@@ -70,6 +72,7 @@ impl Memory {
     /// # Errors
     ///
     /// The first address of them where nothing that can be written is mapped. All is then as before.
+    #[inline(always)]
     pub fn write(&mut self, address: u32, size: u8, value: u32) -> Result<(), Hole>
         requires { (size ≡ 1) ⊎ ((size ≡ 2) ⊎ (size ≡ 4)) }
         ensures answer { result ≡ hole_or (first_shut (memory_of self.old) (span address size)) tt }

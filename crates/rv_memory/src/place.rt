@@ -6,6 +6,7 @@ ghost use Rattle.rv_memory.specs.Inner.Places.{HasAddress, IsNowhere};
 use crate::stretch::Stretch;
 
 /// The number of the stretch that the address lies in.
+#[inline(never)]
 pub(crate) fn place_of(stretches: &[Stretch], address: u32) -> Option<usize>
     requires { AreInOrder stretches.now }
     ensures { MatchOption result (IsNowhere stretches.now address) (λ place. HasAddress stretches.now place address) }
@@ -32,6 +33,7 @@ pub(crate) fn place_of(stretches: &[Stretch], address: u32) -> Option<usize>
 }
 
 /// The number of the stretch that the address lies in. The stretch with the number `near` is looked at first.
+#[inline(always)]
 pub(crate) fn near_place(stretches: &[Stretch], near: usize, address: u32) -> Option<usize>
     requires { AreInOrder stretches.now }
     ensures { MatchOption result (IsNowhere stretches.now address) (λ place. HasAddress stretches.now place address) }

@@ -11,6 +11,7 @@ use crate::place::{near_place, place_of};
 use crate::stretch::Stretch;
 
 /// The number of the first `size` bytes, the lowest first.
+#[inline(always)]
 pub(crate) fn number_from(bytes: &[u8], size: u8) -> u32
     requires size { (size ≡ 1) ⊎ ((size ≡ 2) ⊎ (size ≡ 4)) }
     requires enough { size ≤ length bytes.now }
@@ -75,6 +76,7 @@ pub(crate) fn rest_from(stretches: &[Stretch], address: u32) -> &[u8]
 }
 
 /// The number that `size` bytes from an address on have. Where they lie in one stretch, it is looked up once.
+#[inline(always)]
 pub(crate) fn fetch(stretches: &[Stretch], address: u32, size: u8) -> Result<u32, Hole>
     requires order { AreInOrder stretches.now }
     requires size { (size ≡ 1) ⊎ ((size ≡ 2) ⊎ (size ≡ 4)) }
@@ -90,6 +92,7 @@ pub(crate) fn fetch(stretches: &[Stretch], address: u32, size: u8) -> Result<u32
 }
 
 /// Reads byte by byte, from the lowest on.
+#[inline(never)]
 pub(crate) fn gather(stretches: &[Stretch], address: u32, count: u8) -> Result<u32, Hole>
     requires order { AreInOrder stretches.now }
     requires few { count ≤ 4 }
@@ -110,6 +113,7 @@ pub(crate) fn gather(stretches: &[Stretch], address: u32, count: u8) -> Result<u
 
 /// The number of four bytes from an address on. A byte that isn't mapped counts as 0. `near` is the number of the stretch
 /// where the last ones were found, which is looked at first.
+#[inline(always)]
 pub(crate) fn word_near(stretches: &[Stretch], near: &mut usize, address: u32) -> u32
     requires { AreInOrder stretches.now }
     ensures { result ≡ number_of (bytes_at (cells_in stretches.now) (span address 4)) }
@@ -126,6 +130,7 @@ pub(crate) fn word_near(stretches: &[Stretch], near: &mut usize, address: u32) -
 }
 
 /// The same, byte by byte.
+#[inline(never)]
 fn word_by_byte(stretches: &[Stretch], address: u32) -> u32
     requires { AreInOrder stretches.now }
     ensures { result ≡ number_of (bytes_at (cells_in stretches.now) (span address 4)) }

@@ -36,6 +36,7 @@ impl Stretch {
     }
 
     /// The first byte's address.
+    #[inline(always)]
     pub(crate) fn start(&self) -> u32
         ensures { result ≡ self.now.start }
     {
@@ -43,6 +44,7 @@ impl Stretch {
     }
 
     /// How many bytes there are.
+    #[inline(always)]
     pub(crate) fn len(&self) -> usize
         ensures { result ≡ length self.now.bytes }
     {
@@ -50,6 +52,7 @@ impl Stretch {
     }
 
     /// Whether the bytes can be written.
+    #[inline(always)]
     pub(crate) fn is_writable(&self) -> bool
         ensures { result ≡ self.now.writable }
     {
@@ -57,6 +60,7 @@ impl Stretch {
     }
 
     /// Whether one of the bytes has this address.
+    #[inline(always)]
     pub(crate) fn has_address(&self, address: u32) -> bool
         ensures { IsTrue result ↔ (self.now.start ≤ address) × (address < stretch_end self.now) }
     {
@@ -64,6 +68,7 @@ impl Stretch {
     }
 
     /// The bytes from this place on.
+    #[inline(always)]
     pub(crate) fn from_place(&self, place: usize) -> &[u8]
         requires { place ≤ length self.now.bytes }
         ensures { result.now ≡ drop place self.now.bytes }
@@ -72,6 +77,7 @@ impl Stretch {
     }
 
     /// The byte at this place.
+    #[inline(always)]
     pub(crate) fn byte(&self, place: usize) -> u8
         requires { place < length self.now.bytes }
         ensures { result ≡ slice_index self.now.bytes place }
@@ -80,6 +86,7 @@ impl Stretch {
     }
 
     /// Puts the lowest `size` bytes of a value from this place on, the lowest first.
+    #[inline(always)]
     pub(crate) fn store(&mut self, place: usize, size: u8, value: u32)
         requires size { (size ≡ 1) ⊎ ((size ≡ 2) ⊎ (size ≡ 4)) }
         requires within { place + size ≤ length self.old.bytes }

@@ -12,6 +12,7 @@ use crate::reading::writable_at;
 use crate::stretch::Stretch;
 
 /// The first of `count` addresses that can't be written.
+#[inline(never)]
 pub(crate) fn shut_from(stretches: &[Stretch], address: u32, count: u8) -> Option<u32>
     requires { AreInOrder stretches.now }
     ensures { result ≡ first_shut (cells_in stretches.now) (span address count) }
@@ -40,6 +41,7 @@ pub(crate) fn put_byte(stretches: &mut [Stretch], address: u32, byte: u8)
 }
 
 /// Writes byte by byte, from the lowest on.
+#[inline(never)]
 pub(crate) fn scatter(stretches: &mut [Stretch], address: u32, count: u8, value: u32)
     requires order { AreInOrder stretches.old }
     requires free { first_shut (cells_in stretches.old) (span address count) ≡ None }
@@ -53,6 +55,7 @@ pub(crate) fn scatter(stretches: &mut [Stretch], address: u32, count: u8, value:
 }
 
 /// Puts the lowest `size` bytes of a value from an address on. Where they lie in one stretch, it is looked up once.
+#[inline(always)]
 pub(crate) fn store(
     stretches: &mut [Stretch],
     address: u32,

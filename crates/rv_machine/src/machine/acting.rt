@@ -17,6 +17,7 @@ use rv_code::{
 
 impl Machine {
     /// Carries out an instruction, and answers what came of it. A fault is that of the port which a call used.
+    #[inline(always)]
     pub(super) fn act<I: Source, O: Sink, P: Sink, Q: Sink>(
         &mut self,
         instr: Instr,
@@ -55,6 +56,7 @@ impl Machine {
     }
 
     /// Jumps to a target with the next word's address in a register. Where the target is no multiple of 4 the run ends.
+    #[inline(always)]
     fn jump(&mut self, link: u8, target: u32) -> Acted
         requires { link < 32 }
         ensures { ActsAlone (made_of (jump_to link target) self.old) self.old result self.new }
@@ -68,6 +70,7 @@ impl Machine {
     }
 
     /// `jal`.
+    #[inline(always)]
     fn jal(&mut self, rd: u8, imm: i32) -> Acted
         requires { rd < 32 }
         ensures { ActsAlone (made_by (Instr.Jal rd imm) self.old) self.old result self.new }
@@ -76,6 +79,7 @@ impl Machine {
     }
 
     /// `jalr`: the target is read before the link is written.
+    #[inline(always)]
     fn jalr(&mut self, rd: u8, rs1: u8, imm: i32) -> Acted
         requires result { rd < 32 }
         requires base { rs1 < 32 }
@@ -85,6 +89,7 @@ impl Machine {
     }
 
     /// The value of a register and an immediate together, modulo 2^32.
+    #[inline(always)]
     fn sum(&self, register: u8, imm: i32) -> u32
         requires { register < 32 }
         ensures { result ≡ wrap (register_of self.now.registers register + unsigned imm) }
@@ -93,6 +98,7 @@ impl Machine {
     }
 
     /// A branch.
+    #[inline(always)]
     fn branch(&mut self, op: BranchOp, rs1: u8, rs2: u8, imm: i32) -> Acted
         requires first { rs1 < 32 }
         requires second { rs2 < 32 }
@@ -106,6 +112,7 @@ impl Machine {
     }
 
     /// A load.
+    #[inline(always)]
     fn load_from(&mut self, op: LoadOp, rd: u8, rs1: u8, imm: i32) -> Acted
         requires result { rd < 32 }
         requires base { rs1 < 32 }
@@ -123,6 +130,7 @@ impl Machine {
     }
 
     /// A store.
+    #[inline(always)]
     fn store_to(&mut self, op: StoreOp, rs1: u8, rs2: u8, imm: i32) -> Acted
         requires base { rs1 < 32 }
         requires value { rs2 < 32 }
@@ -141,6 +149,7 @@ impl Machine {
     }
 
     /// An operation on a register and an immediate.
+    #[inline(always)]
     fn op_imm(&mut self, op: ImmOp, rd: u8, rs1: u8, imm: i32) -> Acted
         requires result { rd < 32 }
         requires operand { rs1 < 32 }
@@ -152,6 +161,7 @@ impl Machine {
     }
 
     /// An operation on two registers.
+    #[inline(always)]
     fn op(&mut self, op: RegOp, rd: u8, rs1: u8, rs2: u8) -> Acted
         requires result { rd < 32 }
         requires first { rs1 < 32 }
@@ -164,6 +174,7 @@ impl Machine {
     }
 
     /// `lui`.
+    #[inline(always)]
     fn lui(&mut self, rd: u8, imm: u32) -> Acted
         requires { rd < 32 }
         ensures { ActsAlone (made_by (Instr.Lui rd imm) self.old) self.old result self.new }
@@ -173,6 +184,7 @@ impl Machine {
     }
 
     /// `auipc`.
+    #[inline(always)]
     fn auipc(&mut self, rd: u8, imm: u32) -> Acted
         requires { rd < 32 }
         ensures { ActsAlone (made_by (Instr.Auipc rd imm) self.old) self.old result self.new }
@@ -182,6 +194,7 @@ impl Machine {
     }
 
     /// `fence`.
+    #[inline(always)]
     fn fence(&mut self, word: u32) -> Acted
         ensures { ActsAlone (made_by (Instr.Fence word) self.old) self.old result self.new }
     {
@@ -191,6 +204,7 @@ impl Machine {
 }
 
 /// The bytes of a load.
+#[inline(always)]
 fn size_of_load(op: LoadOp) -> u8
     ensures size { result ≡ load_size op }
     ensures small { (result ≡ 1) ⊎ ((result ≡ 2) ⊎ (result ≡ 4)) }
@@ -203,6 +217,7 @@ fn size_of_load(op: LoadOp) -> u8
 }
 
 /// The bytes of a store.
+#[inline(always)]
 fn size_of_store(op: StoreOp) -> u8
     ensures size { result ≡ store_size op }
     ensures small { (result ≡ 1) ⊎ ((result ≡ 2) ⊎ (result ≡ 4)) }
@@ -215,6 +230,7 @@ fn size_of_store(op: StoreOp) -> u8
 }
 
 /// What a load gives, of the number of its bytes: `lb` and `lh` extend the sign.
+#[inline(always)]
 fn extended(op: LoadOp, bits: u32) -> u32
     requires { bits < 256 ^ load_size op }
     ensures { (bytes : List ℕ) → number_of bytes ≡ bits → result ≡ loaded op bytes }
@@ -227,6 +243,7 @@ fn extended(op: LoadOp, bits: u32) -> u32
 }
 
 /// A number of fewer than 32 bits as a signed word; `half` and above count as negative.
+#[inline(always)]
 fn sign_extended(half: u32, bits: u32) -> u32
     requires half { half < 2 ^ 16 }
     requires bits { bits < half + half }

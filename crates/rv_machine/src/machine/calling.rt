@@ -137,6 +137,7 @@ impl Machine {
     }
 
     /// Carries out a call.
+    #[inline(never)]
     pub(super) fn call<I: Source, O: Sink, P: Sink, Q: Sink>(
         &mut self,
         input: &mut I,
