@@ -5,8 +5,8 @@ mod Apart
 mod Registers
 pub mod LawsOfPlaces
 pub mod LawsOfLookUps
-mod Sample
 mod WordFields
 mod Encoded
 mod Decoded
 mod Masks
+pub mod LawsOfMasks

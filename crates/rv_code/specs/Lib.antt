@@ -16,3 +16,4 @@ pub mod ImageView
 pub mod Image
 pub mod Endings
 pub mod Ways
+pub mod Successors

@@ -74,6 +74,22 @@ written_by Ecall = Some 10
 written_by Ebreak = None
 written_by (Bad word) = None
 
+-- the register that a load or store takes its address from, if it is one that can be written
+abbrev pub base_of : Instr → Option ℕ
+base_of (Lui rd imm) = None
+base_of (Auipc rd imm) = None
+base_of (Jal rd imm) = None
+base_of (Jalr rd rs1 imm) = None
+base_of (Branch op rs1 rs2 imm) = None
+base_of (Load op rd rs1 imm) = but_zero rs1
+base_of (Store op rs1 rs2 imm) = but_zero rs1
+base_of (OpImm op rd rs1 imm) = None
+base_of (Op op rd rs1 rs2) = None
+base_of (Fence word) = None
+base_of Ecall = None
+base_of Ebreak = None
+base_of (Bad word) = None
+
 -- registers as bits of a mask, without x0
 abbrev pub mask_of : List ℕ → ℕ
 mask_of [] = 0

@@ -38,7 +38,7 @@ pub use limits::{
     STACK_LENGTH, STACK_START, TRACER_START, WORDS_LIMIT,
 };
 pub use lists::ListOf;
-pub use parts::{class_of, reads, target, writes};
+pub use parts::{base, class_of, reads, target, writes};
 pub use places::{address_in, count_in, place_in, word_in};
 pub use results::{is_taken, on_registers, op_result, result_of};
-pub use ways::{ends_a_run, falls, way_to};
+pub use ways::{Successors, direct_successors, ends_a_run, falls, way_to};

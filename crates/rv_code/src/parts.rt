@@ -2,7 +2,7 @@
 ghost use Rattle.std.specs.Prelude.{◌≡◌, ◌+◌, ◌<◌, [], ◌∷◌};
 ghost use Rattle.rv_code.specs.Numbers.{wrap, unsigned};
 ghost use Rattle.rv_code.specs.Encoding.{Fits};
-ghost use Rattle.rv_code.specs.Parts.{class_of, but_zero, mask_of, sources_of, written_by, target_of};
+ghost use Rattle.rv_code.specs.Parts.{class_of, but_zero, mask_of, sources_of, written_by, base_of, target_of};
 
 use crate::{Class, Instr};
 
@@ -52,6 +52,26 @@ pub fn writes(instr: &Instr) -> Option<u8>
         Instr::Branch { .. }
         | Instr::Store { .. }
         | Instr::Fence(_)
+        | Instr::Ebreak
+        | Instr::Bad(_) => None,
+    }
+}
+
+/// The register that a load or store takes its address from, but x0, which always reads 0. `None` for each other instruction.
+pub fn base(instr: &Instr) -> Option<u8>
+    ensures { result ≡ base_of instr.now }
+{
+    match *instr {
+        Instr::Load { rs1, .. } | Instr::Store { rs1, .. } => but_zero(rs1),
+        Instr::Lui { .. }
+        | Instr::Auipc { .. }
+        | Instr::Jal { .. }
+        | Instr::Jalr { .. }
+        | Instr::Branch { .. }
+        | Instr::OpImm { .. }
+        | Instr::Op { .. }
+        | Instr::Fence(_)
+        | Instr::Ecall
         | Instr::Ebreak
         | Instr::Bad(_) => None,
     }

@@ -1,7 +1,7 @@
 -- The closure gives the first number of each pair.
 use Rattle.std.proofs.Common.{rules}
 use Rattle.rv_code.proofs.LawsOfLists.{ordered_from_sort_by_key}
-use Rattle.rv_code.proofs.tests.lists.in_order.Goals as goal
+use Rattle.rv_code.proofs.tests.in_order.Goals as goal
 
 pub returns : goal.returns
 returns c =
