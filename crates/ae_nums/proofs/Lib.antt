@@ -1,3 +1,4 @@
+pub mod LawsOfRegisters
 pub mod LawsOfTraces
 pub mod LawsOfWriters
 mod Places

@@ -4,4 +4,5 @@ pub mod Trace
 pub mod Taken
 pub mod Writer
 pub mod Spans
+pub mod Registers
 pub mod scaffolding

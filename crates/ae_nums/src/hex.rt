@@ -2,6 +2,7 @@ ghost use Rattle.std.specs.Prelude.{◌≡◌, ◌%◌};
 ghost use Rattle.ae_nums.specs.Hex.{hex_digit_text, hex8_text};
 
 /// A word as eight hexadecimal digits in lower case.
+#[inline(always)]
 pub fn hex8(word: u32) -> [u8; 8]
     ensures { result ≡ hex8_text word }
 {
@@ -18,6 +19,7 @@ pub fn hex8(word: u32) -> [u8; 8]
 }
 
 /// The lowest hexadecimal digit of a word.
+#[inline(always)]
 fn low_digit(word: u32) -> u8
     ensures { result ≡ hex_digit_text (word % 16) }
 {

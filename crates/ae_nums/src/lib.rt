@@ -4,6 +4,8 @@
 mod digits;
 mod hex;
 mod item;
+mod laws;
+mod registers;
 mod room;
 mod span;
 mod taker;
@@ -15,12 +17,11 @@ mod writer;
 pub use digits::{decimal, read_decimal};
 pub use hex::hex8;
 pub use item::Item;
+pub use laws::masks_have_their_registers;
+pub use registers::{Registers, registers_of};
 pub use span::Span64;
 pub use taker::Taker;
 pub use text::Text;
 pub use trace::item_line;
 pub use words::{put_u32, take_u32};
 pub use writer::LineWriter;
-
-#[cfg(test)]
-mod tests;

@@ -39,6 +39,7 @@ impl Room {
     }
 
     /// How many bytes are free.
+    #[inline(always)]
     pub fn free(&self) -> usize
         ensures { result + length self.now ≡ 4096 }
     {
@@ -46,6 +47,7 @@ impl Room {
     }
 
     /// Appends the bytes, for which there has to be room.
+    #[inline(always)]
     pub fn push(&mut self, bytes: &[u8])
         requires { length self.old + length bytes.now ≤ 4096 }
         ensures { self.new ≡ self.old ++ bytes.now }

@@ -1,4 +1,5 @@
-ghost use Rattle.std.specs.Prelude.{◌≡◌, ◌≤◌, length};
+ghost use Rattle.std.specs.Prelude.{◌≡◌, ◌+◌, ◌<◌, ◌≤◌, [], ◌∷◌, ◌++◌, length};
+ghost use Rattle.ae_nums.specs.Hex.{hex8_text};
 ghost use Rattle.ae_nums.specs.Trace.{access_text, item_text, line_of};
 
 use crate::{Item, Text, decimal, hex8};
@@ -46,4 +47,23 @@ fn access_text(mark: &[u8; 2], address: u32, size: u8) -> Text
     text.push(b" ");
     decimal(u64::from(size), &mut text);
     text
+}
+
+/// The line of a fetch.
+#[inline(always)]
+pub(crate) fn fetch_line(address: u32) -> [u8; 11]
+    ensures { result ≡ line_of (Item.Fetch address) }
+{
+    let [a, b, c, d, e, f, g, h] = hex8(address);
+    [b'I', b' ', a, b, c, d, e, f, g, h, b'\n']
+}
+
+/// The line of an access of less than ten bytes.
+#[inline(always)]
+pub(crate) fn access_line(mark: u8, address: u32, size: u8) -> [u8; 13]
+    requires { size < 10 }
+    ensures { result ≡ mark ∷ 32 ∷ (hex8_text address ++ 32 ∷ (48 + size) ∷ 10 ∷ []) }
+{
+    let [a, b, c, d, e, f, g, h] = hex8(address);
+    [mark, b' ', a, b, c, d, e, f, g, h, b' ', b'0' + size, b'\n']
 }

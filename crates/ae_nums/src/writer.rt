@@ -4,6 +4,7 @@ ghost use Rattle.ae_ports.specs.Fault.{HasCause};
 ghost use Rattle.ae_nums.specs.Trace.{trace_text};
 
 use crate::room::Room;
+use crate::trace::{access_line, fetch_line};
 use crate::{Item, Taker, item_line};
 use ae_ports::{Failed, Sink, write_all};
 
@@ -69,6 +70,7 @@ impl<'a, K: Sink> LineWriter<'a, K> {
     }
 
     // Hands what was gathered to a sink that hasn't failed, and empties the room.
+    #[inline(never)]
     fn hand_on(&mut self) -> Result<(), Failed>
         requires { self.old.broken ≡ false }
         ensures written { Wrote K.told K.faults self.old self.new [] }
@@ -86,6 +88,7 @@ impl<'a, K: Sink> LineWriter<'a, K> {
     }
 
     // Gathers a text, behind what waits or, where there is no room for it, once what waits was handed on.
+    #[inline(always)]
     fn gather(&mut self, text: &[u8]) -> Result<(), Failed>
         requires whole { self.old.broken ≡ false }
         requires short { length text.now ≤ 4096 }
@@ -116,11 +119,21 @@ impl<K: Sink> Taker for LineWriter<'_, K> {
     ghost same_rest = { λ one two. SameSink one.sink.ghost_name two.sink.ghost_name
         (K.same_rest one.sink.now two.sink.now) };
 
+    #[inline(always)]
     fn take(&mut self, item: Item) -> Result<(), Failed> {
         if self.broken {
             return Ok(());
         }
-        self.gather(item_line(&item).bytes())
+        match item {
+            Item::Fetch(address) => self.gather(&fetch_line(address)),
+            Item::Read { address, size } if size < 10 => {
+                self.gather(&access_line(b'R', address, size))
+            }
+            Item::Write { address, size } if size < 10 => {
+                self.gather(&access_line(b'W', address, size))
+            }
+            _ => self.gather(item_line(&item).bytes()),
+        }
     }
 
     ghost took_nothing = { λ writer. wrote_nothing K.told K.faults writer };
