@@ -1,7 +1,7 @@
 -- From what an instruction does to what a step does.
 use Rattle.std.proofs.Common.{◌≡◌, ℕ, Bool, true, false, cond, List, [], ◌∷◌, Option, None, Some, Result, Ok, Err, is_some, IfOk, refl, sym, ap, ◌∙◌, subst}
 use Rattle.std.specs.Io.KnownBytes.{append_known}
-use Rattle.std.specs.Option.{option_to_list}
+use Rattle.std.specs.Option.{option_map, option_to_list}
 use Rattle.ae_nums.specs.declared.item.Item.{Item}
 use Rattle.ae_nums.specs.declared.item.Item.TheVariants.{Fetch}
 use Rattle.rv_code.specs.declared.ending.Ending.TheVariants.{FetchFault}
@@ -12,13 +12,15 @@ use Rattle.rv_code.specs.Table.{meaning_of}
 use Rattle.rv_memory.specs.Memory.{span, bytes_at}
 use Rattle.rv_memory.specs.Stretches.{memory_of}
 use Rattle.rv_machine.specs.declared.acted.Acted.{Acted}
+use Rattle.rv_machine.specs.declared.acted.Gone.{Gone}
 use Rattle.rv_machine.specs.declared.outcome.MachineFault.{MachineFault}
 use Rattle.rv_machine.specs.declared.seen.Step.{Step}
 use Rattle.rv_machine.specs.Step.{StepOutcome, EndedWith, after_fetch, carried_out, fetched, step_of}
 use Rattle.rv_machine.specs.Held.{Held, Outside, fresh, program_in, state_of}
 use Rattle.rv_machine.specs.Outcomes.{Steps, access_behind, access_of, nothing_seen, seen_in, seen_of}
 use Rattle.rv_machine.specs.Ports.{Told, HasPassed, Passes}
-use Rattle.rv_machine.specs.Inner.Advance.{Stops, Acts, Advances, made_by, step_with}
+use Rattle.rv_machine.specs.Inner.Advance.{Stops, Acts, Advances, GoesOn, StepsTo, at, made_at, made_by, step_with}
+use Rattle.rv_machine.specs.Inner.Decoded.{decoded_at, word_in_memory}
 use Rattle.rv_machine.proofs.Passing.{nothing, nothing_passed, appends_front}
 
 -- a step at which a word was fetched
@@ -26,6 +28,10 @@ pub step_after : (held : Held) (outside : Outside) (word : ℕ) → fetched (pro
     → step_of (program_in held) (state_of held outside) ≡ after_fetch held.pc (made_by (meaning_of word) held outside)
 unfolding step_of
 step_after held outside word found = ap (carried_out (is_some held.note) (state_of held outside)) found
+
+-- the word at an address, where a code word stands there
+abbrev decoded_word : Held → ℕ → Option ℕ
+decoded_word held pc = word_in_memory held.code (memory_of held.memory) pc
 
 pub advances : (outcome step : Outside → StepOutcome) (pc : ℕ) → ((outside : Outside) → step outside ≡ after_fetch pc (outcome outside))
     → (before : Held) (told : Told) (result : Result Acted MachineFault) (now : Held) (told_now : Told)
@@ -50,6 +56,35 @@ advances outcome step pc is before told (Err fault) now told_now acts =
           let went = acts.step outside tells in
           (went.0, Fetch pc ∷ went.1, is outside ∙ ap (after_fetch pc) went.2, went.3);
       stays = acts.stays;
+    }
+
+-- the word whose meaning was fetched
+pub meant : (word : Option ℕ) (instr : Instr) → Some instr ≡ option_map meaning_of word → (w : ℕ) × (word ≡ Some w) × (instr ≡ meaning_of w)
+meant None instr is = absurd (cc is)
+meant (Some word) instr is = (word, refl, cc)
+
+pub no_meaning : (word : Option ℕ) → None ≡ option_map meaning_of word → word ≡ None
+no_meaning None is = refl
+no_meaning (Some word) is = absurd (cc is)
+
+-- the same at a machine's own pc
+pub meant_at : (held : Held) (pc : ℕ) (instr : Instr) → pc ≡ held.pc → Some instr ≡ decoded_at held.code (memory_of held.memory) pc
+    → (w : ℕ) × (decoded_word held held.pc ≡ Some w) × (instr ≡ meaning_of w)
+meant_at held pc instr here is = meant (decoded_word held held.pc) instr (is ∙ ap (λ p. decoded_at held.code (memory_of held.memory) p) here)
+
+pub no_word_at : (held : Held) (pc : ℕ) → pc ≡ held.pc → None ≡ decoded_at held.code (memory_of held.memory) pc → (outside : Outside) → fetched (program_in held) (state_of held outside) ≡ None
+no_word_at held pc here is outside = no_meaning (decoded_word held held.pc) (is ∙ ap (λ p. decoded_at held.code (memory_of held.memory) p) here)
+
+-- a step that called no port and didn't end
+pub quick_step : (pc : ℕ) (held fetched_by now : Held) (instr : Instr) (gone : Gone) → fetched_by ≡ held → Some instr ≡ decoded_at held.code (memory_of held.memory) pc
+    → GoesOn (made_at instr pc fetched_by) pc fetched_by gone now → StepsTo pc held gone now
+quick_step pc held fetched_by now instr gone same found went =
+    let way = meant (decoded_word held pc) instr found in
+    let h : GoesOn (made_at (meaning_of way.0) pc held) pc held gone now =
+    subst (λ (i : Instr). GoesOn (made_at i pc held) pc held gone now) way.2 (subst (λ (b : Held). GoesOn (made_at instr pc b) pc b gone now) same went) in
+    record {
+      step = λ outside. step_after (at pc held) outside way.0 way.1 ∙ ap (after_fetch pc) (h.step outside);
+      stays = record { program = h.stays.program; note = h.stays.note; outline = h.stays.outline; kept = h.stays.kept };
     }
 
 pub no_word : (held now : Held) (told told_now : Told) (pc : ℕ) → pc ≡ held.pc
@@ -89,28 +124,28 @@ behind_fetch : (pc : ℕ) (access : Option Item) → access_behind (Fetch pc ∷
 behind_fetch pc None = refl
 behind_fetch pc (Some access) = refl
 
-word_at : Held → ℕ
-word_at held = number_of (bytes_at (memory_of held.memory) (span held.pc 4))
+word_of : Held → ℕ
+word_of held = number_of (bytes_at (memory_of held.memory) (span held.pc 4))
 
 pub no_word_shows : (held : Held) (outside : Outside) → fetched (program_in held) (state_of held outside) ≡ None → nothing_seen ≡ seen_of (program_in held) (state_of held outside)
-unfolding step_of word_at
+unfolding step_of word_of
 no_word_shows held outside none =
-    let fetch : cond (is_code held.code held.pc) (Some held.pc) None ≡ None = no_fetch (is_code held.code held.pc) (word_at held) held.pc none in
+    let fetch : cond (is_code held.code held.pc) (Some held.pc) None ≡ None = no_fetch (is_code held.code held.pc) (word_of held) held.pc none in
     let access : access_of (step_of (program_in held) (state_of held outside)) ≡ None = ap (λ word. access_of (carried_out (is_some held.note) (state_of held outside) word)) none in
     λ i. record { fetch = sym fetch i; access = sym access i }
 
 shows : (held now : Held) (told told_now : Told) (word : ℕ) (outside : Outside) → fetched (program_in held) (state_of held outside) ≡ Some word
     → (acted : Result Acted MachineFault) → Acts (made_by (meaning_of word) held) held told acted now told_now
     → IfOk (step_with held.pc acted) (λ step. seen_in step ≡ seen_of (program_in held) (state_of held outside))
-unfolding word_at
+unfolding word_of
 shows held now told told_now word outside found (Ok (Acted.Went access)) acts =
     let goes = acts.goes outside in
-    let fetch : cond (is_code held.code held.pc) (Some held.pc) None ≡ Some held.pc = has_fetch (is_code held.code held.pc) (word_at held) word held.pc found in
+    let fetch : cond (is_code held.code held.pc) (Some held.pc) None ≡ Some held.pc = has_fetch (is_code held.code held.pc) (word_of held) word held.pc found in
     let is : access_of (step_of (program_in held) (state_of held outside)) ≡ access =
     ap access_of (step_after held outside word found ∙ ap (after_fetch held.pc) goes.1) ∙ behind_fetch held.pc access in
     λ i. record { fetch = sym fetch i; access = sym is i }
 shows held now told told_now word outside found (Ok (Acted.Ended ending)) acts =
-    let fetch : cond (is_code held.code held.pc) (Some held.pc) None ≡ Some held.pc = has_fetch (is_code held.code held.pc) (word_at held) word held.pc found in
+    let fetch : cond (is_code held.code held.pc) (Some held.pc) None ≡ Some held.pc = has_fetch (is_code held.code held.pc) (word_of held) word held.pc found in
     let is : access_of (step_of (program_in held) (state_of held outside)) ≡ None =
     ap access_of (step_after held outside word found ∙ ap (after_fetch held.pc) (acts.step outside)) in
     λ i. record { fetch = sym fetch i; access = sym is i }

@@ -12,3 +12,5 @@ mod Called
 mod Advanced
 mod Gone
 mod TwoRegions
+mod Fixed
+mod Quick

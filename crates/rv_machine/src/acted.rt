@@ -9,3 +9,18 @@ pub(crate) enum Acted {
     /// The run is to end so, and the machine is as it was before.
     Ended(Ending),
 }
+
+/// A step that called no port and didn't end: where the machine goes on, and the access of memory that it made.
+#[derive(Clone, Copy, Debug, PartialEq, Eq)]
+pub(crate) struct Gone {
+    pub(crate) next: u32,
+    pub(crate) access: Option<Item>,
+}
+
+/// What came of an instruction that calls no port. It leaves the machine's pc as it was.
+#[derive(Clone, Copy, Debug, PartialEq, Eq)]
+pub(crate) enum Alone {
+    Went(Gone),
+    /// The run is to end so, and the machine is as it was before.
+    Ended(Ending),
+}

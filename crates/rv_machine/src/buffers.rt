@@ -9,6 +9,7 @@ ghost use Rattle.rv_memory.specs.Outline.{outline};
 ghost use Rattle.rv_memory.specs.Memory.{span, bytes_at, first_hole, first_shut};
 ghost use Rattle.rv_machine.specs.Inner.Advance.{Receives};
 
+use crate::loaded::Loaded;
 use ae_ports::{Failed, Sink, Source, write_all};
 use rv_code::TRACER_START;
 use rv_memory::Memory;
@@ -92,14 +93,15 @@ pub(crate) fn send<K: Sink>(
 
 /// Takes bytes of the input into a buffer, and answers how many: as many as it has room for, or all that are left.
 pub(crate) fn receive<I: Source>(
-    memory: &mut Memory,
+    loaded: &mut Loaded,
     address: u32,
     count: u32,
     input: &mut I,
 ) -> Result<u32, Failed>
-    requires { first_shut (memory_of memory.old) (span address count) ≡ None }
-    ensures received { IfOk result (λ got. Receives (I.told input.old) (I.told input.new) (memory_of memory.old) (memory_of memory.new) address count got) }
-    ensures outline { outline memory.new.stretches ≡ outline memory.old.stretches }
+    requires { first_shut (memory_of loaded.old.memory) (span address count) ≡ None }
+    ensures code { loaded.new.code ≡ loaded.old.code }
+    ensures received { IfOk result (λ got. Receives (I.told input.old) (I.told input.new) (memory_of loaded.old.memory) (memory_of loaded.new.memory) address count got) }
+    ensures outline { outline loaded.new.memory.stretches ≡ outline loaded.old.memory.stretches }
     ensures taken { OnErr result ((bytes : List ℕ) × Consumes (I.told input.old) (I.told input.new) bytes) }
     ensures cause { HasCause (I.faults input.old) (I.faults input.new) result }
     ensures rest { I.same_rest input.old input.new }
@@ -112,7 +114,7 @@ pub(crate) fn receive<I: Source>(
         if more == 0 {
             return Ok(got);
         }
-        memory.put(address.wrapping_add(got), &piece[..more]);
+        loaded.put(address.wrapping_add(got), &piece[..more]);
         got += more as u32;
     }
     Ok(got)

@@ -9,10 +9,12 @@ mod buffers;
 mod code;
 mod kept;
 pub mod laws;
+mod loaded;
 mod loading;
 mod machine;
 mod outcome;
 mod seen;
+mod table;
 mod taking;
 mod untraced;
 

@@ -1,10 +1,13 @@
-ghost use Rattle.std.specs.Prelude.{◌≡◌, ℕ, ◌+◌, ◌<◌, ⊤, List, Option, None, Some, Result, Ok, IfOk, false};
+ghost use Rattle.std.specs.Prelude.{◌≡◌, ℕ, ◌+◌, ◌<◌, ⊤, List, Option, None, Some, Result, Ok, IfOk, IfSome, false};
 ghost use Rattle.ae_nums.specs.declared.item.Item.{Item};
 ghost use Rattle.rv_code.specs.Numbers.{wrap};
 ghost use Rattle.rv_code.specs.declared.ending.Ending.{Ending};
+ghost use Rattle.rv_code.specs.Parts.{HasRegisters};
+ghost use Rattle.rv_memory.specs.Stretches.{memory_of};
 ghost use Rattle.rv_memory.specs.Outline.{outline};
 ghost use Rattle.rv_machine.specs.declared.outcome.MachineFault.{MachineFault};
-ghost use Rattle.rv_machine.specs.Inner.Advance.{Advances, Stays, Turns};
+ghost use Rattle.rv_machine.specs.Inner.Advance.{Advances, Stays, StepsAlone, Turns};
+ghost use Rattle.rv_machine.specs.Inner.Decoded.{decoded_at};
 ghost use Rattle.rv_machine.specs.Held.{Held, Outside, program_in, state_of, loaded_of};
 ghost use Rattle.rv_machine.specs.Outcomes.{seen_in, seen_of, Steps, Runs, step_again, run_again, kept_by_step, kept_by_run};
 ghost use Rattle.rv_machine.specs.Ports.{HasCauses, Passes, tells, counts};
@@ -12,15 +15,16 @@ ghost use Rattle.rv_machine.specs.Promises.{AnswersStep, AnswersRun, ForEach};
 ghost use Rattle.rv_machine.specs.State.{register_of, with_register};
 ghost use Rattle.rv_machine.specs.Step.{fetched, step_of};
 
-use crate::code::finds_code;
+use crate::acted::{Alone, Gone};
 use crate::kept::{as_outcome, kept_by_run, kept_by_step, step_with};
+use crate::loaded::Loaded;
 use crate::loading::{code_extents, note_like, start_registers};
-use crate::taking::give_items;
+use crate::taking::{give, give_items};
 use crate::untraced::Untraced;
 use crate::{MachineFault, Outcome, Seen, Step};
 use ae_nums::Taker;
 use ae_ports::{Dropped, Failed, Sink, Source};
-use rv_code::{Ending, Extent, Image, Note, decode};
+use rv_code::{Ending, Image, Instr, Note};
 use rv_memory::Memory;
 use std::alloc::{AllocError, Global};
 use std::marker::Model;
@@ -31,34 +35,29 @@ mod calling;
 /// A machine that runs one image, step by step.
 #[derive(Debug, Drop)]
 pub struct Machine {
-    /// Where code words stand.
-    code: Vec<Extent>,
-    /// The place in `code` of the extent that the last fetch was in.
-    near_code: usize,
-    /// The number of the region that the last fetch was in.
-    near_region: usize,
+    loaded: Loaded,
     /// What a rewritten executable says of itself.
     note: Option<Note>,
     pc: u32,
     registers: [u32; 32],
-    memory: Memory,
     /// The ending or the fault that each later call answers.
     kept: Option<Result<Ending, MachineFault>>,
 }
 
 impl Model for Machine {
     ghost use Rattle.std.specs.Prelude.{◌≡◌, slice_index};
+    ghost use Rattle.rv_machine.specs.Inner.Decoded.{decoded_at};
     ghost use Rattle.rv_machine.specs.Held.{Held};
 
     ghost Value = { Held };
 
     ghost view = { λ m.
         record {
-          code = m.code.items;
+          code = m.loaded.code;
           note = m.note;
           pc = m.pc;
           registers = m.registers;
-          memory = m.memory;
+          memory = m.loaded.memory;
           kept = m.kept;
         } };
 
@@ -74,28 +73,22 @@ impl Machine {
         let code = code_extents(alloc, image.code.as_slice())?;
         let note = note_like(alloc, &image.note)?;
         Ok(Machine {
-            code,
-            near_code: 0,
-            near_region: 0,
+            loaded: Loaded::new(alloc, memory, code)?,
             note,
             pc: image.entry,
             registers: start_registers(),
-            memory,
             kept: None,
         })
     }
 
-    /// The word at the pc, `None` where no code word stands there.
+    /// The instruction at an address, `None` where no code word stands there.
     #[inline(always)]
-    fn fetch(&mut self) -> Option<u32>
-        ensures word { (outside : Outside) → result ≡ fetched (program_in self.old) (state_of self.old outside) }
+    fn fetch(&mut self, pc: u32) -> Option<Instr>
+        ensures registers { IfSome result HasRegisters }
+        ensures instr { result ≡ decoded_at self.old.code (memory_of self.old.memory) pc }
         ensures same { self.new ≡ self.old }
     {
-        if finds_code(&self.code, &mut self.near_code, self.pc) {
-            Some(self.memory.word(&mut self.near_region, self.pc))
-        } else {
-            None
-        }
+        self.loaded.fetch(pc)
     }
 
     /// The value of a register.
@@ -158,7 +151,7 @@ impl Machine {
         ensures events { Q.same_rest events.old events.new }
     {
         let pc = self.pc;
-        let Some(word) = self.fetch() else {
+        let Some(instr) = self.fetch(pc) else {
             return Ok(Step::Ended(
                 Ending::FetchFault(pc),
                 Seen {
@@ -167,11 +160,24 @@ impl Machine {
                 },
             ));
         };
-        step_with(pc, self.act(decode(word), input, out, err, events))
+        step_with(pc, self.act(instr, input, out, err, events))
+    }
+
+    /// One step from an address on, where it calls no port and doesn't end. The machine's pc stays as it was. Of any other step
+    /// `None`, and the machine is as before.
+    #[inline(always)]
+    fn quick(&mut self, pc: u32) -> Option<Gone>
+        ensures { StepsAlone pc self.old result self.new }
+    {
+        let instr = self.fetch(pc)?;
+        match self.act_alone(pc, instr)? {
+            Alone::Went(gone) => Some(gone),
+            Alone::Ended(_) => None,
+        }
     }
 
     /// One step, whatever the machine keeps, and its items given to a taker. It answers the ending that it comes to.
-    #[inline(always)]
+    #[inline(never)]
     fn turn<I: Source, O: Sink, P: Sink, Q: Sink, K: Taker>(
         &mut self,
         input: &mut I,
@@ -234,11 +240,20 @@ impl Machine {
         ensures events { Q.same_rest events.old events.new }
         ensures items { K.same_rest items.old items.new }
     {
+        let mut pc = self.pc;
         for _made in 0..fuel {
-            if let Some(ending) = self.turn(input, out, err, events, items)? {
-                return Ok(Outcome::Ended(ending));
+            if let Some(gone) = self.quick(pc) {
+                give(items, pc, gone.access)?;
+                pc = gone.next;
+            } else {
+                self.pc = pc;
+                if let Some(ending) = self.turn(input, out, err, events, items)? {
+                    return Ok(Outcome::Ended(ending));
+                }
+                pc = self.pc;
             }
         }
+        self.pc = pc;
         Ok(Outcome::Spent)
     }
 

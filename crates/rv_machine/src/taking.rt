@@ -1,5 +1,5 @@
 //! Giving a taker the items of a step.
-ghost use Rattle.std.specs.Prelude.{◌≡◌, IfErr, OnOk, OnErr};
+ghost use Rattle.std.specs.Prelude.{◌≡◌, ◌∷◌, IfErr, OnOk, OnErr};
 ghost use Rattle.std.specs.Option.{option_map, option_to_list};
 ghost use Rattle.ae_ports.specs.Fault.{HasCause};
 ghost use Rattle.rv_machine.specs.Outcomes.{TookFront, items_in};
@@ -60,4 +60,27 @@ pub(crate) fn give_items<K: Taker>(items: &mut K, seen: Seen) -> Result<(), Mach
         Ok(()) => Ok(()),
         Err(Failed) => Err(MachineFault::EventFault),
     }
+}
+
+/// Gives a taker the items of a step that fetched at this address.
+#[inline(always)]
+pub(crate) fn give<K: Taker>(
+    items: &mut K,
+    pc: u32,
+    access: Option<Item>,
+) -> Result<(), MachineFault>
+    ensures all { OnOk result (K.took items.old items.new (Item.Fetch pc ∷ option_to_list access)) }
+    ensures front { OnErr result (TookFront (K.took items.old items.new) (Item.Fetch pc ∷ option_to_list access)) }
+    ensures same { OnOk result (K.faults items.new ≡ K.faults items.old) }
+    ensures risen { OnErr result (Rises (K.faults items.old) (K.faults items.new)) }
+    ensures fault { IfErr result (λ fault. fault ≡ MachineFault.EventFault) }
+    ensures rest { K.same_rest items.old items.new }
+{
+    give_items(
+        items,
+        Seen {
+            fetch: Some(pc),
+            access,
+        },
+    )
 }

@@ -4,5 +4,5 @@ mod Order
 mod ReadBytes
 mod RunBytes
 mod ReadBack
-mod Sample
 mod WrittenBytes
+mod Near

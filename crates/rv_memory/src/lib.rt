@@ -13,8 +13,6 @@ mod memory;
 mod place;
 mod reading;
 mod stretch;
-#[cfg(test)]
-mod tests;
 mod writing;
 
 pub use hole::Hole;

@@ -1,4 +1,5 @@
 ghost use Rattle.std.specs.Prelude.{◌≡◌, ◌⊎◌, ◌^◌, ◌<◌, true, false, None, [], length, IfOk, IfErr};
+ghost use Rattle.std.specs.List.{AllByRecursion};
 ghost use Rattle.rv_code.specs.Numbers.{bytes_of, number_of};
 ghost use Rattle.rv_memory.specs.Answers.{hole_or, read_at};
 ghost use Rattle.rv_memory.specs.Stretches.{mapping_of, memory_of};
@@ -7,7 +8,9 @@ ghost use Rattle.rv_memory.specs.Outline.{outline, region_at, bytes_behind};
 
 use crate::Hole;
 use crate::loading::stretches_of;
-use crate::reading::{extent_of, fetch, mapped_at, rest_from, room_at, word_near, writable_at};
+use crate::reading::{
+    extent_of, fetch, fixed_at, mapped_at, rest_from, room_at, word_near, writable_at,
+};
 use crate::stretch::Stretch;
 use crate::writing::{store, store_all};
 use rv_code::Image;
@@ -44,18 +47,19 @@ impl Memory {
         Ok(Memory { stretches })
     }
 
-    /// The number that `size` bytes from an address on have, the lowest byte first.
+    /// The number that `size` bytes from an address on have, the lowest byte first. `near` is the number of the region where the
+    /// last ones were found, which is looked at first.
     ///
     /// # Errors
     ///
     /// The first address of them where nothing is mapped.
     #[inline(always)]
-    pub fn read(&self, address: u32, size: u8) -> Result<u32, Hole>
+    pub fn read(&self, near: &mut usize, address: u32, size: u8) -> Result<u32, Hole>
         requires { (size ≡ 1) ⊎ ((size ≡ 2) ⊎ (size ≡ 4)) }
         ensures answer { result ≡ read_at (memory_of self.now) address size }
         ensures small { IfOk result (λ number. number < 256 ^ size) }
     {
-        fetch(&self.stretches, address, size)
+        fetch(&self.stretches, near, address, size)
     }
 
     /// The number of the four bytes from an address on, the lowest first. A byte that isn't mapped counts as 0. `near` is
@@ -67,20 +71,26 @@ impl Memory {
         word_near(&self.stretches, near, address)
     }
 
-    /// Puts the lowest `size` bytes of a value from an address on, the lowest first.
+    /// Puts the lowest `size` bytes of a value from an address on, the lowest first. `near` is as in [`read`](Memory::read).
     ///
     /// # Errors
     ///
     /// The first address of them where nothing that can be written is mapped. All is then as before.
     #[inline(always)]
-    pub fn write(&mut self, address: u32, size: u8, value: u32) -> Result<(), Hole>
+    pub fn write(
+        &mut self,
+        near: &mut usize,
+        address: u32,
+        size: u8,
+        value: u32,
+    ) -> Result<(), Hole>
         requires { (size ≡ 1) ⊎ ((size ≡ 2) ⊎ (size ≡ 4)) }
         ensures answer { result ≡ hole_or (first_shut (memory_of self.old) (span address size)) tt }
         ensures put { IfOk result (λ _. memory_of self.new ≡ written (memory_of self.old) (span address size) (bytes_of size value)) }
         ensures kept { IfErr result (λ _. self.new ≡ self.old) }
         ensures outline { outline self.new.stretches ≡ outline self.old.stretches }
     {
-        store(&mut self.stretches, address, size, value)
+        store(&mut self.stretches, near, address, size, value)
     }
 
     /// Puts bytes from an address on, all of which have to be writable.
@@ -131,5 +141,13 @@ impl Memory {
         ensures to_the_end { is_writable (memory_of self.now) address ≡ true → result ≡ length (bytes_behind self.now.stretches address) }
     {
         room_at(&self.stretches, address)
+    }
+
+    /// How many bytes from an address to the end of its region can't be written, none where it isn't mapped.
+    pub fn fixed_from(&self, address: u32) -> usize
+        ensures fixed { AllByRecursion (λ byte. is_writable (memory_of self.now) byte ≡ false) (span address result) }
+        ensures to_the_end { is_writable (memory_of self.now) address ≡ false → result ≡ length (bytes_behind self.now.stretches address) }
+    {
+        fixed_at(&self.stretches, address)
     }
 }

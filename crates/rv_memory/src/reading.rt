@@ -1,5 +1,6 @@
 //! Reads of bytes, wherever they lie.
 ghost use Rattle.std.specs.Prelude.{◌≡◌, ◌⊎◌, ◌^◌, ◌<◌, ◌≤◌, true, false, None, [], length, take, IfOk};
+ghost use Rattle.std.specs.List.{AllByRecursion};
 ghost use Rattle.rv_code.specs.Numbers.{number_of};
 ghost use Rattle.rv_memory.specs.Answers.{read_at};
 ghost use Rattle.rv_memory.specs.Stretches.{cells_in};
@@ -75,24 +76,53 @@ pub(crate) fn rest_from(stretches: &[Stretch], address: u32) -> &[u8]
     }
 }
 
-/// The number that `size` bytes from an address on have. Where they lie in one stretch, it is looked up once.
+/// The number that `size` bytes from an address on have. The stretch with the number `near` is looked at first.
 #[inline(always)]
-pub(crate) fn fetch(stretches: &[Stretch], address: u32, size: u8) -> Result<u32, Hole>
+pub(crate) fn fetch(
+    stretches: &[Stretch],
+    near: &mut usize,
+    address: u32,
+    size: u8,
+) -> Result<u32, Hole>
     requires order { AreInOrder stretches.now }
     requires size { (size ≡ 1) ⊎ ((size ≡ 2) ⊎ (size ≡ 4)) }
     ensures answer { result ≡ read_at (cells_in stretches.now) address size }
     ensures small { IfOk result (λ number. number < 256 ^ size) }
 {
-    let bytes = rest_from(stretches, address);
-    if bytes.len() >= size as usize {
-        Ok(number_from(bytes, size))
-    } else {
-        gather(stretches, address, size)
+    let first = *near;
+    if first < stretches.len()
+        && let Some(place) = stretches[first].place_for(address, size)
+    {
+        return Ok(number_from(stretches[first].from_place(place), size));
     }
+    fetch_anywhere(stretches, near, address, size)
+}
+
+/// The same, of bytes that may lie anywhere. Where they lie in one stretch, it is looked up once, and is the near one then.
+#[inline(never)]
+fn fetch_anywhere(
+    stretches: &[Stretch],
+    near: &mut usize,
+    address: u32,
+    size: u8,
+) -> Result<u32, Hole>
+    requires order { AreInOrder stretches.now }
+    requires size { (size ≡ 1) ⊎ ((size ≡ 2) ⊎ (size ≡ 4)) }
+    ensures answer { result ≡ read_at (cells_in stretches.now) address size }
+    ensures small { IfOk result (λ number. number < 256 ^ size) }
+{
+    if let Some(place) = place_of(stretches, address) {
+        *near = place;
+        let stretch = &stretches[place];
+        let bytes = stretch.from_place((address - stretch.start()) as usize);
+        if bytes.len() >= size as usize {
+            return Ok(number_from(bytes, size));
+        }
+    }
+    gather(stretches, address, size)
 }
 
 /// Reads byte by byte, from the lowest on.
-#[inline(never)]
 pub(crate) fn gather(stretches: &[Stretch], address: u32, count: u8) -> Result<u32, Hole>
     requires order { AreInOrder stretches.now }
     requires few { count ≤ 4 }
@@ -168,6 +198,22 @@ pub(crate) fn room_at(stretches: &[Stretch], address: u32) -> usize
         Some(place) if stretches[place].is_writable() => {
             let stretch = &stretches[place];
             stretch.len() - (address - stretch.start()) as usize
+        }
+        _ => 0,
+    }
+}
+
+/// How many bytes from an address to the end of its stretch can't be written.
+pub(crate) fn fixed_at(stretches: &[Stretch], address: u32) -> usize
+    requires { AreInOrder stretches.now }
+    ensures fixed { AllByRecursion (λ byte. is_writable (cells_in stretches.now) byte ≡ false) (span address result) }
+    ensures to_the_end { is_writable (cells_in stretches.now) address ≡ false → result ≡ length (bytes_behind stretches.now address) }
+{
+    match place_of(stretches, address) {
+        Some(place) if !stretches[place].is_writable() => {
+            let stretch = &stretches[place];
+            let offset = (address - stretch.start()) as usize;
+            stretch.len() - offset
         }
         _ => 0,
     }

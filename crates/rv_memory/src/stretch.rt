@@ -1,4 +1,4 @@
-ghost use Rattle.std.specs.Prelude.{◌≡◌, ◌⊎◌, ◌↔◌, ◌+◌, ◌-◌, ◌<◌, ◌≤◌, IsTrue, length, drop, slice_index};
+ghost use Rattle.std.specs.Prelude.{◌≡◌, ◌⊎◌, ◌↔◌, ◌+◌, ◌-◌, ◌^◌, ◌<◌, ◌≤◌, IsTrue, IfSome, length, drop, slice_index};
 ghost use Rattle.rv_code.specs.Numbers.{bytes_of};
 
 use std::marker::Model;
@@ -65,6 +65,21 @@ impl Stretch {
         ensures { IsTrue result ↔ (self.now.start ≤ address) × (address < stretch_end self.now) }
     {
         address >= self.start && ((address - self.start) as usize) < self.bytes.len()
+    }
+
+    /// The place of the first of `size` bytes from an address on, where all of them are the stretch's.
+    #[inline(always)]
+    pub(crate) fn place_for(&self, address: u32, size: u8) -> Option<usize>
+        requires some { 0 < size }
+        requires within { stretch_end self.now ≤ 2 ^ 32 }
+        ensures { IfSome result (λ place. (address ≡ self.now.start + place) × (place + size ≤ length self.now.bytes)) }
+    {
+        let place = address.wrapping_sub(self.start) as usize;
+        if place + size as usize <= self.bytes.len() {
+            Some(place)
+        } else {
+            None
+        }
     }
 
     /// The bytes from this place on.

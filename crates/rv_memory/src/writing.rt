@@ -54,10 +54,38 @@ pub(crate) fn scatter(stretches: &mut [Stretch], address: u32, count: u8, value:
     }
 }
 
-/// Puts the lowest `size` bytes of a value from an address on. Where they lie in one stretch, it is looked up once.
+/// Puts the lowest `size` bytes of a value from an address on. The stretch with the number `near` is looked at first.
 #[inline(always)]
 pub(crate) fn store(
     stretches: &mut [Stretch],
+    near: &mut usize,
+    address: u32,
+    size: u8,
+    value: u32,
+) -> Result<(), Hole>
+    requires order { AreInOrder stretches.old }
+    requires size { (size ≡ 1) ⊎ ((size ≡ 2) ⊎ (size ≡ 4)) }
+    ensures answer { result ≡ hole_or (first_shut (cells_in stretches.old) (span address size)) tt }
+    ensures put { IfOk result (λ _. cells_in stretches.new ≡ written (cells_in stretches.old) (span address size) (bytes_of size value)) }
+    ensures kept { IfErr result (λ _. stretches.new ≡ stretches.old) }
+    ensures outline { outline stretches.new ≡ outline stretches.old }
+{
+    let first = *near;
+    if first < stretches.len() && stretches[first].is_writable() {
+        let stretch = &mut stretches[first];
+        if let Some(place) = stretch.place_for(address, size) {
+            stretch.store(place, size, value);
+            return Ok(());
+        }
+    }
+    store_anywhere(stretches, near, address, size, value)
+}
+
+/// The same, of bytes that may lie anywhere. Where they lie in one stretch, it is looked up once, and is the near one then.
+#[inline(never)]
+fn store_anywhere(
+    stretches: &mut [Stretch],
+    near: &mut usize,
     address: u32,
     size: u8,
     value: u32,
@@ -70,6 +98,7 @@ pub(crate) fn store(
     ensures outline { outline stretches.new ≡ outline stretches.old }
 {
     if let Some(place) = place_of(stretches, address) {
+        *near = place;
         let stretch = &mut stretches[place];
         let offset = (address - stretch.start()) as usize;
         if stretch.is_writable() && stretch.len() - offset >= size as usize {

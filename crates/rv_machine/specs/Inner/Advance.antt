@@ -1,24 +1,30 @@
 -- What the parts of a step do, by what comes of it: `outcome` gives it at whatever the outside has.
-use Rattle.std.specs.Prelude.{◌≡◌, ℕ, ◌+◌, ◌<◌, ◌≤◌, ◌&&◌, nat_le, is_none, is_some, Bool, true, false, List, [], ◌++◌, length, Option, Some, None, Result, Ok, Err}
+use Rattle.std.specs.Prelude.{◌≡◌, ℕ, ◌+◌, ◌<◌, ◌≤◌, ◌&&◌, nat_le, is_none, is_some, Bool, true, false, List, [], ◌∷◌, ◌++◌, length, Option, Some, None, Result, Ok, Err}
 use Rattle.std.specs.List.{list_all}
 use Rattle.std.specs.Option.{option_to_list}
 use Rattle.ae_nums.specs.declared.item.Item.{Item}
+use Rattle.ae_nums.specs.declared.item.Item.TheVariants.{Fetch}
 use Rattle.ae_ports.specs.declared.failed.Failed.{Failed}
 use Rattle.ae_ports.specs.Content.{Consumes, Appends, AppendsFront, IsAtEnd}
 use Rattle.rv_code.specs.Addresses.{tracer_start}
 use Rattle.rv_code.specs.declared.ending.Ending.{Ending}
 use Rattle.rv_code.specs.declared.instr.Instr.{Instr}
+use Rattle.rv_code.specs.declared.instr.LoadOp.{LoadOp}
+use Rattle.rv_code.specs.declared.instr.StoreOp.{StoreOp}
+use Rattle.rv_code.specs.declared.instr.Instr.TheVariants.{Ecall}
 use Rattle.rv_memory.specs.Stretches.{memory_of}
 use Rattle.rv_memory.specs.Outline.{outline}
-use Rattle.rv_memory.specs.Memory.{Cell, span, bytes_at, first_hole, written}
+use Rattle.rv_memory.specs.Memory.{Cell, span, bytes_at, first_hole, first_shut, written}
 use Rattle.rv_code.specs.Numbers.{wrap}
 use Rattle.rv_machine.specs.declared.acted.Acted.{Acted}
+use Rattle.rv_machine.specs.declared.acted.Alone.{Alone}
+use Rattle.rv_machine.specs.declared.acted.Gone.{Gone}
 use Rattle.rv_machine.specs.declared.outcome.MachineFault.{MachineFault}
 use Rattle.rv_machine.specs.declared.seen.Step.{Step}
 use Rattle.rv_machine.specs.State.{State, register_of, with_register}
-use Rattle.rv_machine.specs.Effect.{Effect}
+use Rattle.rv_machine.specs.Effect.{Effect, load_at, load_size, store_at, store_size}
 use Rattle.rv_machine.specs.Calls.{read_call, write_call, effect_of}
-use Rattle.rv_machine.specs.Step.{StepOutcome, Went, EndedWith, settled}
+use Rattle.rv_machine.specs.Step.{StepOutcome, Went, EndedWith, settled, step_of}
 use Rattle.rv_machine.specs.Laws.{IsFrontOf}
 use Rattle.rv_machine.specs.Held.{Held, Outside, program_in, state_of}
 use Rattle.rv_machine.specs.Ports.{Told, Passed, HasPassed}
@@ -43,6 +49,14 @@ read_in held = read_call (register_of held.registers 10) (buffer_in held) (memor
 abbrev pub write_in : Held → Effect
 write_in held = write_call (is_some held.note) (register_of held.registers 10) (register_of held.registers 12) (buffer_in held) (memory_of held.memory)
 
+-- the effects of a load and a store at an address
+abbrev pub load_in : LoadOp → (rd address : ℕ) → Held → Effect
+load_in op rd address held =
+    load_at op rd address (memory_of held.memory) (first_hole (memory_of held.memory) (span address (load_size op)))
+
+abbrev pub store_in : StoreOp → (value address : ℕ) → Held → Effect
+store_in op value address held = store_at op value address (first_shut (memory_of held.memory) (span address (store_size op)))
+
 -- what a machine keeps through each step
 pub record Stays (before now : Held) : Type 0 where
   pub program : program_in now ≡ program_in before
@@ -59,9 +73,49 @@ pub record EndsAlone (outcome : Outside → StepOutcome) (before : Held) (ending
   pub step : (outside : Outside) → outcome outside ≡ EndedWith ending []
   pub same : now ≡ before
 
-abbrev pub ActsAlone : (outcome : Outside → StepOutcome) → (before : Held) → Acted → (now : Held) → Type 0
-ActsAlone outcome before (Acted.Went access) now = WentAlone outcome before access now
-ActsAlone outcome before (Acted.Ended ending) now = EndsAlone outcome before ending now
+-- a machine with another pc
+abbrev pub at : ℕ → Held → Held
+at pc held = record held { pc = pc }
+
+-- what an instruction at an address comes to
+abbrev pub made_at : Instr → ℕ → Held → Outside → StepOutcome
+made_at instr pc held = made_by instr (at pc held)
+
+-- a machine with a register set
+abbrev pub with_register_set : Held → ℕ → ℕ → Held
+with_register_set held register value = record held { registers = with_register held.registers register value }
+
+-- so it went on from an address; the machine's own pc isn't looked at
+abbrev pub GoesOn : (outcome : Outside → StepOutcome) → (pc : ℕ) → (before : Held) → Gone → (now : Held) → Type 0
+GoesOn outcome pc before gone now = WentAlone outcome (at pc before) gone.access (at gone.next now)
+
+abbrev pub ActsAlone : (outcome : Outside → StepOutcome) → (pc : ℕ) → (before : Held) → Alone → (now : Held) → Type 0
+ActsAlone outcome pc before (Alone.Went gone) now = GoesOn outcome pc before gone now
+ActsAlone outcome pc before (Alone.Ended ending) now = EndsAlone outcome before ending now
+
+-- the pc was put where it went on
+abbrev pub Settles : Alone → (before : Held) → Acted → (now : Held) → Type 0
+Settles (Alone.Went gone) before (Acted.Went access) now = (access ≡ gone.access) × (now ≡ at gone.next before)
+Settles (Alone.Went gone) before (Acted.Ended ending) now = ⊥
+Settles (Alone.Ended last) before (Acted.Went access) now = ⊥
+Settles (Alone.Ended last) before (Acted.Ended ending) now = (ending ≡ last) × (now ≡ before)
+
+-- the same, or it is a call and nothing was done
+abbrev pub ActsUnlessCall : Instr → (pc : ℕ) → (before : Held) → Option Alone → (now : Held) → Type 0
+ActsUnlessCall instr pc before None now = (instr ≡ Ecall) × (now ≡ before)
+ActsUnlessCall instr pc before (Some alone) now = ActsAlone (made_at instr pc before) pc before alone now
+
+-- a step from an address that calls no port and doesn't end
+pub record StepsTo (pc : ℕ) (before : Held) (gone : Gone) (now : Held) : Type 0 where
+  pub step :
+      (outside : Outside)
+      → step_of (program_in before) (state_of (at pc before) outside) ≡ Went (state_of (at gone.next now) outside) (Fetch pc ∷ option_to_list gone.access)
+  pub stays : Stays before now
+
+-- such a step was made, or nothing was done
+abbrev pub StepsAlone : (pc : ℕ) → (before : Held) → Option Gone → (now : Held) → Type 0
+StepsAlone pc before None now = now ≡ before
+StepsAlone pc before (Some gone) now = StepsTo pc before gone now
 
 -- the outputs before these bytes passed and after
 pub record Follows (before next : Outside) (passed : Passed) : Type 0 where

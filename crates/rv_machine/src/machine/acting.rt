@@ -1,13 +1,13 @@
 //! Carrying out instructions: a function for each form.
-ghost use Rattle.std.specs.Prelude.{◌≡◌, ◌⊎◌, ℕ, ◌+◌, ◌^◌, ◌<◌, List};
+ghost use Rattle.std.specs.Prelude.{◌≡◌, ◌⊎◌, ℕ, ◌+◌, ◌^◌, ◌<◌, List, None};
 ghost use Rattle.rv_code.specs.Numbers.{wrap, unsigned, sign_extended, number_of};
 ghost use Rattle.rv_code.specs.Parts.{HasRegisters};
-ghost use Rattle.rv_machine.specs.Inner.Advance.{ActsAlone, Acts, made_of, made_by};
+ghost use Rattle.rv_machine.specs.Inner.Advance.{ActsAlone, ActsUnlessCall, Acts, GoesOn, Settles, at, load_in, made_of, made_at, made_by, store_in};
 ghost use Rattle.rv_machine.specs.Effect.{load_size, loaded, store_size, jump_to};
 ghost use Rattle.rv_machine.specs.Ports.{HasCauses, tells, counts};
-ghost use Rattle.rv_machine.specs.State.{register_of};
+ghost use Rattle.rv_machine.specs.State.{register_of, with_register};
 
-use crate::acted::Acted;
+use crate::acted::{Acted, Alone, Gone};
 use crate::{Machine, MachineFault};
 use ae_nums::Item;
 use ae_ports::{Sink, Source};
@@ -38,54 +38,85 @@ impl Machine {
         ensures err { P.same_rest err.old err.new }
         ensures events { Q.same_rest events.old events.new }
     {
+        match self.act_alone(self.pc, instr) {
+            Some(alone) => Ok(self.settle(alone)),
+            None => self.call(input, out, err, events),
+        }
+    }
+
+    /// Puts the pc where an instruction went on.
+    #[inline(always)]
+    fn settle(&mut self, alone: Alone) -> Acted
+        ensures { Settles alone self.old result self.new }
+    {
+        match alone {
+            Alone::Went(gone) => {
+                self.pc = gone.next;
+                Acted::Went(gone.access)
+            }
+            Alone::Ended(ending) => Acted::Ended(ending),
+        }
+    }
+
+    /// Carries out an instruction at an address, and answers what came of it; `None` of a call, which isn't carried out. The
+    /// machine's pc stays as it was.
+    #[inline(always)]
+    pub(super) fn act_alone(&mut self, pc: u32, instr: Instr) -> Option<Alone>
+        requires { HasRegisters instr }
+        ensures { ActsUnlessCall instr pc self.old result self.new }
+    {
         match instr {
-            Instr::OpImm { op, rd, rs1, imm } => Ok(self.op_imm(op, rd, rs1, imm)),
-            Instr::Op { op, rd, rs1, rs2 } => Ok(self.op(op, rd, rs1, rs2)),
-            Instr::Load { op, rd, rs1, imm } => Ok(self.load_from(op, rd, rs1, imm)),
-            Instr::Store { op, rs1, rs2, imm } => Ok(self.store_to(op, rs1, rs2, imm)),
-            Instr::Branch { op, rs1, rs2, imm } => Ok(self.branch(op, rs1, rs2, imm)),
-            Instr::Jal { rd, imm } => Ok(self.jal(rd, imm)),
-            Instr::Jalr { rd, rs1, imm } => Ok(self.jalr(rd, rs1, imm)),
-            Instr::Lui { rd, imm } => Ok(self.lui(rd, imm)),
-            Instr::Auipc { rd, imm } => Ok(self.auipc(rd, imm)),
-            Instr::Fence(word) => Ok(self.fence(word)),
-            Instr::Ecall => self.call(input, out, err, events),
-            Instr::Ebreak => Ok(Acted::Ended(Ending::Breakpoint)),
-            Instr::Bad(word) => Ok(Acted::Ended(Ending::Illegal(word))),
+            Instr::OpImm { op, rd, rs1, imm } => Some(Alone::Went(self.op_imm(
+                pc, op, rd, rs1, imm,
+            ))),
+            Instr::Op { op, rd, rs1, rs2 } => Some(Alone::Went(self.op(pc, op, rd, rs1, rs2))),
+            Instr::Load { op, rd, rs1, imm } => Some(self.load_from(pc, op, rd, rs1, imm)),
+            Instr::Store { op, rs1, rs2, imm } => Some(self.store_to(pc, op, rs1, rs2, imm)),
+            Instr::Branch { op, rs1, rs2, imm } => Some(self.branch(pc, op, rs1, rs2, imm)),
+            Instr::Jal { rd, imm } => Some(self.jal(pc, rd, imm)),
+            Instr::Jalr { rd, rs1, imm } => Some(self.jalr(pc, rd, rs1, imm)),
+            Instr::Lui { rd, imm } => Some(Alone::Went(self.lui(pc, rd, imm))),
+            Instr::Auipc { rd, imm } => Some(Alone::Went(self.auipc(pc, rd, imm))),
+            Instr::Fence(_) => Some(Alone::Went(on_from(pc, None))),
+            Instr::Ecall => None,
+            Instr::Ebreak => Some(Alone::Ended(Ending::Breakpoint)),
+            Instr::Bad(word) => Some(Alone::Ended(Ending::Illegal(word))),
         }
     }
 
     /// Jumps to a target with the next word's address in a register. Where the target is no multiple of 4 the run ends.
     #[inline(always)]
-    fn jump(&mut self, link: u8, target: u32) -> Acted
+    fn jump(&mut self, pc: u32, link: u8, target: u32) -> Alone
         requires { link < 32 }
-        ensures { ActsAlone (made_of (jump_to link target) self.old) self.old result self.new }
+        ensures { ActsAlone (made_of (jump_to link target) (at pc self.old)) pc self.old result self.new }
     {
         if target % 4 != 0 {
-            return Acted::Ended(Ending::JumpMisaligned(target));
+            return Alone::Ended(Ending::JumpMisaligned(target));
         }
-        self.set(link, self.pc.wrapping_add(4));
-        self.pc = target;
-        Acted::Went(None)
+        self.set(link, pc.wrapping_add(4));
+        Alone::Went(Gone {
+            next: target,
+            access: None,
+        })
     }
 
     /// `jal`.
     #[inline(always)]
-    fn jal(&mut self, rd: u8, imm: i32) -> Acted
+    fn jal(&mut self, pc: u32, rd: u8, imm: i32) -> Alone
         requires { rd < 32 }
-        ensures { ActsAlone (made_by (Instr.Jal rd imm) self.old) self.old result self.new }
+        ensures { ActsAlone (made_at (Instr.Jal rd imm) pc self.old) pc self.old result self.new }
     {
-        self.jump(rd, self.pc.wrapping_add(imm.cast_unsigned()))
+        self.jump(pc, rd, pc.wrapping_add(imm.cast_unsigned()))
     }
 
     /// `jalr`: the target is read before the link is written.
     #[inline(always)]
-    fn jalr(&mut self, rd: u8, rs1: u8, imm: i32) -> Acted
+    fn jalr(&mut self, pc: u32, rd: u8, rs1: u8, imm: i32) -> Alone
         requires result { rd < 32 }
         requires base { rs1 < 32 }
-        ensures { ActsAlone (made_by (Instr.Jalr rd rs1 imm) self.old) self.old result self.new }
+        ensures { ActsAlone (made_at (Instr.Jalr rd rs1 imm) pc self.old) pc self.old result self.new }
     {
-        self.jump(rd, self.sum(rs1, imm) / 2 * 2)
+        self.jump(pc, rd, self.sum(rs1, imm) / 2 * 2)
     }
 
     /// The value of a register and an immediate together, modulo 2^32.
@@ -99,107 +130,140 @@ impl Machine {
 
     /// A branch.
     #[inline(always)]
-    fn branch(&mut self, op: BranchOp, rs1: u8, rs2: u8, imm: i32) -> Acted
+    fn branch(&mut self, pc: u32, op: BranchOp, rs1: u8, rs2: u8, imm: i32) -> Alone
         requires first { rs1 < 32 }
         requires second { rs2 < 32 }
-        ensures { ActsAlone (made_by (Instr.Branch op rs1 rs2 imm) self.old) self.old result self.new }
+        ensures { ActsAlone (made_at (Instr.Branch op rs1 rs2 imm) pc self.old) pc self.old result self.new }
     {
         if is_taken(op, self.register(rs1), self.register(rs2)) {
-            return self.jump(0, self.pc.wrapping_add(imm.cast_unsigned()));
+            self.jump(pc, 0, pc.wrapping_add(imm.cast_unsigned()))
+        } else {
+            Alone::Went(on_from(pc, None))
         }
-        self.go_on();
-        Acted::Went(None)
     }
 
     /// A load.
     #[inline(always)]
-    fn load_from(&mut self, op: LoadOp, rd: u8, rs1: u8, imm: i32) -> Acted
+    fn load_from(&mut self, pc: u32, op: LoadOp, rd: u8, rs1: u8, imm: i32) -> Alone
         requires result { rd < 32 }
         requires base { rs1 < 32 }
-        ensures { ActsAlone (made_by (Instr.Load op rd rs1 imm) self.old) self.old result self.new }
+        ensures { ActsAlone (made_at (Instr.Load op rd rs1 imm) pc self.old) pc self.old result self.new }
     {
         let address = self.sum(rs1, imm);
+        match op {
+            LoadOp::Lb => self.load_as(pc, LoadOp::Lb, rd, address),
+            LoadOp::Lh => self.load_as(pc, LoadOp::Lh, rd, address),
+            LoadOp::Lw => self.load_as(pc, LoadOp::Lw, rd, address),
+            LoadOp::Lbu => self.load_as(pc, LoadOp::Lbu, rd, address),
+            LoadOp::Lhu => self.load_as(pc, LoadOp::Lhu, rd, address),
+        }
+    }
+
+    /// A load from an address.
+    #[inline(always)]
+    fn load_as(&mut self, pc: u32, op: LoadOp, rd: u8, address: u32) -> Alone
+        requires { rd < 32 }
+        ensures { ActsAlone (made_of (load_in op rd address self.old) (at pc self.old)) pc self.old result self.new }
+    {
         let size = size_of_load(op);
-        match self.memory.read(address, size) {
+        match self.loaded.read(address, size) {
             Ok(bits) => {
-                self.set_and_go_on(rd, extended(op, bits));
-                Acted::Went(Some(Item::Read { address, size }))
+                self.set(rd, extended(op, bits));
+                Alone::Went(on_from(pc, Some(Item::Read { address, size })))
             }
-            Err(hole) => Acted::Ended(Ending::LoadFault(hole.address)),
+            Err(hole) => Alone::Ended(Ending::LoadFault(hole.address)),
         }
     }
 
     /// A store.
     #[inline(always)]
-    fn store_to(&mut self, op: StoreOp, rs1: u8, rs2: u8, imm: i32) -> Acted
+    fn store_to(&mut self, pc: u32, op: StoreOp, rs1: u8, rs2: u8, imm: i32) -> Alone
         requires base { rs1 < 32 }
         requires value { rs2 < 32 }
-        ensures { ActsAlone (made_by (Instr.Store op rs1 rs2 imm) self.old) self.old result self.new }
+        ensures { ActsAlone (made_at (Instr.Store op rs1 rs2 imm) pc self.old) pc self.old result self.new }
     {
         let address = self.sum(rs1, imm);
-        let size = size_of_store(op);
         let value = self.register(rs2);
-        match self.memory.write(address, size, value) {
-            Ok(()) => {
-                self.go_on();
-                Acted::Went(Some(Item::Write { address, size }))
-            }
-            Err(hole) => Acted::Ended(Ending::StoreFault(hole.address)),
+        match op {
+            StoreOp::Sb => self.store_as(pc, StoreOp::Sb, address, value),
+            StoreOp::Sh => self.store_as(pc, StoreOp::Sh, address, value),
+            StoreOp::Sw => self.store_as(pc, StoreOp::Sw, address, value),
         }
+    }
+
+    /// A store to an address.
+    #[inline(always)]
+    fn store_as(&mut self, pc: u32, op: StoreOp, address: u32, value: u32) -> Alone
+        ensures { ActsAlone (made_of (store_in op value address self.old) (at pc self.old)) pc self.old result self.new }
+    {
+        let size = size_of_store(op);
+        match self.loaded.write(address, size, value) {
+            Ok(()) => Alone::Went(on_from(pc, Some(Item::Write { address, size }))),
+            Err(hole) => Alone::Ended(Ending::StoreFault(hole.address)),
+        }
+    }
+
+    /// Puts a value into a register, and goes on behind an address.
+    #[inline(always)]
+    fn sets(&mut self, pc: u32, rd: u8, value: u32) -> Gone
+        requires { rd < 32 }
+        ensures gone { result ≡ record { next = wrap (pc + 4); access = None } }
+        ensures set { self.new ≡ record self.old { registers = with_register self.old.registers rd value } }
+    {
+        self.set(rd, value);
+        on_from(pc, None)
     }
 
     /// An operation on a register and an immediate.
     #[inline(always)]
-    fn op_imm(&mut self, op: ImmOp, rd: u8, rs1: u8, imm: i32) -> Acted
+    fn op_imm(&mut self, pc: u32, op: ImmOp, rd: u8, rs1: u8, imm: i32) -> Gone
         requires result { rd < 32 }
         requires operand { rs1 < 32 }
-        ensures { ActsAlone (made_by (Instr.OpImm op rd rs1 imm) self.old) self.old result self.new }
+        ensures { GoesOn (made_at (Instr.OpImm op rd rs1 imm) pc self.old) pc self.old result self.new }
     {
         let value = op_result(on_registers(op), self.register(rs1), imm.cast_unsigned());
-        self.set_and_go_on(rd, value);
-        Acted::Went(None)
+        self.sets(pc, rd, value)
     }
 
     /// An operation on two registers.
     #[inline(always)]
-    fn op(&mut self, op: RegOp, rd: u8, rs1: u8, rs2: u8) -> Acted
+    fn op(&mut self, pc: u32, op: RegOp, rd: u8, rs1: u8, rs2: u8) -> Gone
         requires result { rd < 32 }
         requires first { rs1 < 32 }
         requires second { rs2 < 32 }
-        ensures { ActsAlone (made_by (Instr.Op op rd rs1 rs2) self.old) self.old result self.new }
+        ensures { GoesOn (made_at (Instr.Op op rd rs1 rs2) pc self.old) pc self.old result self.new }
     {
         let value = op_result(op, self.register(rs1), self.register(rs2));
-        self.set_and_go_on(rd, value);
-        Acted::Went(None)
+        self.sets(pc, rd, value)
     }
 
     /// `lui`.
     #[inline(always)]
-    fn lui(&mut self, rd: u8, imm: u32) -> Acted
+    fn lui(&mut self, pc: u32, rd: u8, imm: u32) -> Gone
         requires { rd < 32 }
-        ensures { ActsAlone (made_by (Instr.Lui rd imm) self.old) self.old result self.new }
+        ensures { GoesOn (made_at (Instr.Lui rd imm) pc self.old) pc self.old result self.new }
     {
-        self.set_and_go_on(rd, imm);
-        Acted::Went(None)
+        self.sets(pc, rd, imm)
     }
 
     /// `auipc`.
     #[inline(always)]
-    fn auipc(&mut self, rd: u8, imm: u32) -> Acted
+    fn auipc(&mut self, pc: u32, rd: u8, imm: u32) -> Gone
         requires { rd < 32 }
-        ensures { ActsAlone (made_by (Instr.Auipc rd imm) self.old) self.old result self.new }
+        ensures { GoesOn (made_at (Instr.Auipc rd imm) pc self.old) pc self.old result self.new }
     {
-        self.set_and_go_on(rd, self.pc.wrapping_add(imm));
-        Acted::Went(None)
+        self.sets(pc, rd, pc.wrapping_add(imm))
     }
+}
 
-    /// `fence`.
-    #[inline(always)]
-    fn fence(&mut self, word: u32) -> Acted
-        ensures { ActsAlone (made_by (Instr.Fence word) self.old) self.old result self.new }
-    {
-        self.go_on();
-        Acted::Went(None)
+/// On to the next word, after this access.
+#[inline(always)]
+fn on_from(pc: u32, access: Option<Item>) -> Gone
+    ensures { result ≡ record { next = wrap (pc + 4); access = access } }
+{
+    Gone {
+        next: pc.wrapping_add(4),
+        access,
     }
 }
 

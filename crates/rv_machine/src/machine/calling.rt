@@ -43,7 +43,7 @@ impl Machine {
             return Ok(());
         }
         let count = self.register(12);
-        send(&self.memory, self.register(11), count, sink)?;
+        send(self.loaded.memory(), self.register(11), count, sink)?;
         self.set_and_go_on(10, count);
         Ok(())
     }
@@ -52,7 +52,7 @@ impl Machine {
     fn has_mapped_buffer(&self) -> bool
         ensures { result ≡ is_none (first_hole (memory_of self.now.memory) (buffer_in self.now)) }
     {
-        is_mapped(&self.memory, self.register(11), self.register(12))
+        is_mapped(self.loaded.memory(), self.register(11), self.register(12))
     }
 
     /// Whether a call may give the bytes of its buffer as events.
@@ -123,11 +123,11 @@ impl Machine {
             self.set_and_go_on(10, BAD_DESCRIPTOR);
             return Ok(Acted::Went(None));
         }
-        if !is_writable(&self.memory, address, count) {
+        if !is_writable(self.loaded.memory(), address, count) {
             self.set_and_go_on(10, BAD_ADDRESS);
             return Ok(Acted::Went(None));
         }
-        match receive(&mut self.memory, address, count, input) {
+        match receive(&mut self.loaded, address, count, input) {
             Ok(got) => {
                 self.set_and_go_on(10, got);
                 Ok(Acted::Went(None))

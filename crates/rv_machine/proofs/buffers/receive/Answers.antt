@@ -7,7 +7,8 @@ use Rattle.rv_machine.proofs.buffers.receive.Goals as goal
 
 pub loop-got-init : goal.loop-got-init
 loop-got-init g c = record {
-  received = none_received (g.I.Source.told c.args.input.now) (memory_of c.args.memory.now) c.args.address c.args.count;
+  code = refl;
+  received = none_received (g.I.Source.told c.args.input.now) (memory_of c.args.loaded.now.memory) c.args.address c.args.count;
   outline = refl;
   size = refl;
   same = refl;
@@ -18,7 +19,7 @@ pub put-requires : goal.put-requires
 put-requires g c =
     let piece = filled c.loop-got.piece c.read.new.buf c.min-room.result c.in_ok-more.more c.args.count c.loop-got.got c.loop-got.invariant.size
     c.loop-got.invariant.received.within c.min-room.ensures c.read.auto.buf c.in_ok-more.ensures.within in
-    ap (λ n. first_shut (memory_of c.loop-got.memory) (span ((c.args.address + c.loop-got.got) % 4294967296) n)) piece.long
+    ap (λ n. first_shut (memory_of c.loop-got.loaded.memory) (span ((c.args.address + c.loop-got.got) % 4294967296) n)) piece.long
     ∙ still_free _ _ _ _ _ _ _ (omega arith) c.loop-got.invariant.received c.in_ok-more.more piece.within c.requires
 
 pub loop-got-preserved : goal.loop-got-preserved
@@ -26,6 +27,7 @@ loop-got-preserved g c =
     let piece = filled c.loop-got.piece c.read.new.buf c.min-room.result c.in_ok-more.more c.args.count c.loop-got.got c.loop-got.invariant.size
     c.loop-got.invariant.received.within c.min-room.ensures c.read.auto.buf c.in_ok-more.ensures.within in
     record {
+      code = c.put.ensures.code ∙ c.loop-got.invariant.code;
       received =
           more_received _ _ _ _ _ _ _ (omega arith) c.loop-got.invariant.received _ _ c.in_ok-more.more _ piece.long piece.within
           (subst (λ (xs : List ℕ). Consumes (g.I.Source.told c.loop-got.input) (g.I.Source.told c.read.new.self) xs) (sym piece.front) c.in_ok-more.ensures.content.0)

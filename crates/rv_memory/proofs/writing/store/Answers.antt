@@ -4,37 +4,51 @@ use Rattle.rv_code.specs.Numbers.{bytes_of}
 use Rattle.rv_memory.specs.Answers.{hole_or}
 use Rattle.rv_memory.specs.Stretches.{MappedStretch, stack}
 use Rattle.rv_memory.specs.Outline.{stretch_end}
-use Rattle.rv_memory.specs.Inner.Places.{stretch_at}
+use Rattle.rv_memory.specs.Inner.Places.{stretch_at, HasAddress}
 use Rattle.rv_memory.specs.Inner.Stored.{with_bytes, stored}
+use Rattle.rv_memory.proofs.Near.{ends_within, has_place}
 use Rattle.rv_memory.proofs.WrittenBytes.{IsStored, stored_at, all_open}
 use Rattle.rv_memory.proofs.writing.store.Goals as goal
 
--- the stretch that is written
+-- the stretch that is looked at
 abbrev here : goal.After-store → MappedStretch
-here c = get_or c.args.stretches.now c.in-Some.place c.index-stretches-place.result
+here c = get_or c.args.stretches.now c.args.near.now c.index-stretches-first-then-is_writable.result
 
-found : (c : goal.After-store) → here c ≡ stretch_at c.args.stretches.now c.in-Some.place
-found c = get_or_default c.args.stretches.now c.in-Some.place c.index-stretches-place.result stack c.in-Some.ensures.inside
+found : (c : goal.After-store) → here c ≡ stretch_at c.args.stretches.now c.args.near.now
+found c = get_or_default c.args.stretches.now c.args.near.now c.index-stretches-first-then-is_writable.result stack c.if-first-stretches.true
 
-within : (c : goal.After-store) → (c.args.address - (here c).start) + c.args.size ≤ length (here c).bytes
-within c = omega (arith, c.start.ensures, c.len.ensures, c.in-Some.ensures.above, c.in-Some.ensures.below, ap (λ (b : MappedStretch). b.start) (found c), ap (λ (b : MappedStretch). length b.bytes) (found c))
+pub place_for-requires-clause-within : goal.place_for-requires-clause-within
+place_for-requires-clause-within c =
+    let stretches = c.args.stretches.now in
+    let near = c.args.near.now in
+    ends_within stretches near (get_or stretches near c.index-stretches-first-then-is_writable.result) c.requires.order c.if-first-stretches.true
+    (get_or_default stretches near c.index-stretches-first-then-is_writable.result stack c.if-first-stretches.true)
 
-put : (c : goal.After-store) → IsStored c.args.stretches.now c.in-Some.place c.args.address c.args.size c.args.value c.store.new.self
+has : (c : goal.After-store) → HasAddress c.args.stretches.now c.args.near.now c.args.address
+has c =
+    has_place c.args.stretches.now c.args.near.now (here c) c.args.address c.in-Some.place c.args.size c.if-first-stretches.true (found c)
+    (omega (arith, c.requires.size)) c.in-Some.ensures.0 c.in-Some.ensures.1
+
+put : (c : goal.After-store) → IsStored c.args.stretches.now c.args.near.now c.args.address c.args.size c.args.value c.store.new.self
 put c =
     let stretch : MappedStretch = here c in
-    stored_at c.args.stretches.now c.in-Some.place c.args.address c.args.size c.args.value stretch c.store.new.self c.requires.order c.in-Some.ensures (found c) (within c)
-    (c.store.ensures ∙ ap (λ n. with_bytes stretch (stored stretch.bytes (c.args.address - n) (bytes_of c.args.size c.args.value))) c.start.ensures)
+    let offset : c.in-Some.place ≡ c.args.address - stretch.start = omega (arith, c.in-Some.ensures.0) in
+    let within : (c.args.address - stretch.start) + c.args.size ≤ length stretch.bytes = omega (arith, offset, c.in-Some.ensures.1) in
+    stored_at c.args.stretches.now c.args.near.now c.args.address c.args.size c.args.value stretch c.store.new.self c.requires.order (has c) (found c) within
+    (c.store.ensures ∙ ap (λ n. with_bytes stretch (stored stretch.bytes n (bytes_of c.args.size c.args.value))) offset)
 
-pub returns-then-len-offset-clause-answer : goal.returns-then-len-offset-clause-answer
-returns-then-len-offset-clause-answer c =
+pub returns-in-Some-clause-answer : goal.returns-in-Some-clause-answer
+returns-in-Some-clause-answer c =
     let stretches = c.args.stretches.now in
-    let fits : c.args.address + c.args.size ≤ stretch_end (stretch_at stretches c.in-Some.place) =
-    omega (arith, within c, c.in-Some.ensures.above, ap (λ (b : MappedStretch). b.start) (found c), ap (λ (b : MappedStretch). length b.bytes) (found c)) in
-    let free : (stretch_at stretches c.in-Some.place).writable ≡ true = ap (λ (b : MappedStretch). b.writable) (sym (found c)) ∙ sym c.if-is_writable.ensures in
-    ap (λ hole. hole_or hole tt) (sym (all_open stretches c.in-Some.place c.args.address c.args.size c.requires.order (λ _. c.in-Some.ensures) fits c.in-Some.ensures.inside free))
+    let near = c.args.near.now in
+    let fits : c.args.address + c.args.size ≤ stretch_end (stretch_at stretches near) =
+    omega (arith, c.in-Some.ensures.0, c.in-Some.ensures.1, ap (λ (b : MappedStretch). b.start) (found c), ap (λ (b : MappedStretch). length b.bytes) (found c)) in
+    let read : get_or stretches near c.index-stretches-first.result ≡ stretch_at stretches near = get_or_default stretches near c.index-stretches-first.result stack c.if-first-stretches.true in
+    let free : (stretch_at stretches near).writable ≡ true = ap (λ (b : MappedStretch). b.writable) (sym read) ∙ sym c.if-is_writable.ensures in
+    ap (λ hole. hole_or hole tt) (sym (all_open stretches near c.args.address c.args.size c.requires.order (λ _. has c) fits c.if-first-stretches.true free))
 
-pub returns-then-len-offset-clause-put : goal.returns-then-len-offset-clause-put
-returns-then-len-offset-clause-put c = (put c).put
+pub returns-in-Some-clause-put : goal.returns-in-Some-clause-put
+returns-in-Some-clause-put c = (put c).put
 
-pub returns-then-len-offset-clause-outline : goal.returns-then-len-offset-clause-outline
-returns-then-len-offset-clause-outline c = (put c).outline
+pub returns-in-Some-clause-outline : goal.returns-in-Some-clause-outline
+returns-in-Some-clause-outline c = (put c).outline

@@ -1,4 +1,5 @@
 use Rattle.std.proofs.Common.{◌≡◌}
+use Rattle.rv_machine.specs.Inner.Advance.{at}
 use Rattle.rv_machine.proofs.Gone.{HasGone}
 use Rattle.rv_machine.proofs.machine.Machine.go.Given as goal
 
@@ -6,7 +7,7 @@ abbrev pub invariant-loop-made : goal.invariant-loop-made
 invariant-loop-made g l = record {
   gone : HasGone (g.K.Taker.took l.fn.items l.items) l.fn.self
       (record { input = g.I.Source.told l.fn.input; out = g.O.Sink.told l.fn.out; err = g.P.Sink.told l.fn.err; events = g.Q.Sink.told l.fn.events })
-      l.fuel l._made l.self
+      l.fuel l._made (at l.pc l.self)
       (record { input = g.I.Source.told l.input; out = g.O.Sink.told l.out; err = g.P.Sink.told l.err; events = g.Q.Sink.told l.events });
   faults_input : g.I.Source.faults l.input ≡ g.I.Source.faults l.fn.input;
   faults_out : g.O.Sink.faults l.out ≡ g.O.Sink.faults l.fn.out;

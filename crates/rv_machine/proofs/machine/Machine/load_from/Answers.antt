@@ -1,18 +1,30 @@
-use Rattle.std.proofs.Common.{◌∙◌, refl, sym, ap, w32, to_z, of_z}
+use Rattle.std.proofs.Common.{w32, to_z, of_z}
+use Rattle.rv_code.specs.declared.instr.LoadOp.TheVariants.{Lb, Lh, Lw, Lbu, Lhu}
 use Rattle.rv_code.specs.Numbers.{unsigned}
-use Rattle.rv_machine.specs.Held.{Held}
-use Rattle.rv_machine.proofs.Acts.{bits_of, loads, load_ends}
+use Rattle.rv_machine.proofs.Acts.{bits_of, loads_as}
 use Rattle.rv_machine.proofs.machine.Machine.load_from.Goals as goal
 
-pub returns-in-Ok : goal.returns-in-Ok
-returns-in-Ok c =
-    loads c.args.self.now c.set_and_go_on.new.self c.self.inside.memory c.args.rs1 c.args.imm c.sum-address.result c.size_of_load-size.result
-    (unsigned (to_z w32 (of_z w32 c.args.imm))) (ap (λ (held : Held). held.memory) c.self.view_is) c.sum-address.ensures (bits_of c.args.imm c.ranges.imm)
-    c.args.op c.args.rd c.in-Ok.bits c.extended.result c.size_of_load-size.ensures.size (sym c.in-Ok.is ∙ c.read.ensures.answer)
-    c.extended.ensures c.set_and_go_on.ensures
+pub returns-in-Lb : goal.returns-in-Lb
+returns-in-Lb c =
+    loads_as c.args.pc c.args.self.now c.load_as.new.self c.load_as.result c.args.op Lb c.args.rd c.args.rs1 c.args.imm c.sum-address.result
+    (unsigned (to_z w32 (of_z w32 c.args.imm))) c.in-Lb.is c.sum-address.ensures (bits_of c.args.imm c.ranges.imm) c.load_as.ensures
 
-pub returns-in-Err : goal.returns-in-Err
-returns-in-Err c =
-    load_ends c.args.self.now c.args.self.now c.self.inside.memory c.args.rs1 c.args.imm c.sum-address.result c.size_of_load-size.result
-    (unsigned (to_z w32 (of_z w32 c.args.imm))) (ap (λ (held : Held). held.memory) c.self.view_is) c.sum-address.ensures (bits_of c.args.imm c.ranges.imm)
-    c.args.op c.args.rd c.in-Err.hole c.size_of_load-size.ensures.size (sym c.in-Err.is ∙ c.read.ensures.answer) refl
+pub returns-in-Lh : goal.returns-in-Lh
+returns-in-Lh c =
+    loads_as c.args.pc c.args.self.now c.load_as-in-Lh.new.self c.load_as-in-Lh.result c.args.op Lh c.args.rd c.args.rs1 c.args.imm c.sum-address.result
+    (unsigned (to_z w32 (of_z w32 c.args.imm))) c.in-Lh.is c.sum-address.ensures (bits_of c.args.imm c.ranges.imm) c.load_as-in-Lh.ensures
+
+pub returns-in-Lw : goal.returns-in-Lw
+returns-in-Lw c =
+    loads_as c.args.pc c.args.self.now c.load_as-in-Lw.new.self c.load_as-in-Lw.result c.args.op Lw c.args.rd c.args.rs1 c.args.imm c.sum-address.result
+    (unsigned (to_z w32 (of_z w32 c.args.imm))) c.in-Lw.is c.sum-address.ensures (bits_of c.args.imm c.ranges.imm) c.load_as-in-Lw.ensures
+
+pub returns-in-Lbu : goal.returns-in-Lbu
+returns-in-Lbu c =
+    loads_as c.args.pc c.args.self.now c.load_as-in-Lbu.new.self c.load_as-in-Lbu.result c.args.op Lbu c.args.rd c.args.rs1 c.args.imm c.sum-address.result
+    (unsigned (to_z w32 (of_z w32 c.args.imm))) c.in-Lbu.is c.sum-address.ensures (bits_of c.args.imm c.ranges.imm) c.load_as-in-Lbu.ensures
+
+pub returns-in-Lhu : goal.returns-in-Lhu
+returns-in-Lhu c =
+    loads_as c.args.pc c.args.self.now c.load_as-in-Lhu.new.self c.load_as-in-Lhu.result c.args.op Lhu c.args.rd c.args.rs1 c.args.imm c.sum-address.result
+    (unsigned (to_z w32 (of_z w32 c.args.imm))) c.in-Lhu.is c.sum-address.ensures (bits_of c.args.imm c.ranges.imm) c.load_as-in-Lhu.ensures

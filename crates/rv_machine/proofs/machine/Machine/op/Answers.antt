@@ -3,5 +3,5 @@ use Rattle.rv_machine.proofs.machine.Machine.op.Goals as goal
 
 pub returns : goal.returns
 returns c =
-    op c.args.self.now c.set_and_go_on.new.self c.args.op c.args.rd c.args.rs1 c.args.rs2 c.register.result c.register-2.result c.op_result-value.result
-    c.op_result-value.ensures c.register.ensures c.register-2.ensures c.set_and_go_on.ensures
+    op c.args.pc c.args.self.now c.sets.new.self c.args.op c.args.rd c.args.rs1 c.args.rs2 c.register.result c.register-2.result c.op_result-value.result c.sets.result
+    c.op_result-value.ensures c.register.ensures c.register-2.ensures c.sets.ensures.gone c.sets.ensures.set

@@ -11,7 +11,7 @@ returns-in-None g c =
     let told : Told = tells (g.I.Source.told c.args.input.now) (g.O.Sink.told c.args.out.now) (g.P.Sink.told c.args.err.now) (g.Q.Sink.told c.args.events.now) in
     let told_now : Told = tells (g.I.Source.told c.advance-result.new.input) (g.O.Sink.told c.advance-result.new.out) (g.P.Sink.told c.advance-result.new.err) (g.Q.Sink.told c.advance-result.new.events) in
     let m = c.self-in-None.inside in
-    let now : Held = record { code = m.code.items; note = m.note; pc = m.pc; registers = m.registers; memory = m.memory; kept = c.kept_by_step-self-inside.result } in
+    let now : Held = record { code = m.loaded.code; note = m.note; pc = m.pc; registers = m.registers; memory = m.loaded.memory; kept = c.kept_by_step-self-inside.result } in
     record {
       step = λ running bytes known.
           stepped c.args.self.now c.advance-result.new.self now told told_now c.advance-result.result bytes known c.advance-result.ensures.advances

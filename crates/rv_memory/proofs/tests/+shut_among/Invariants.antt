@@ -1,4 +1,0 @@
-use Rattle.rv_memory.proofs.tests.+shut_among.Given as goal
-
-abbrev pub decreases-shut_among : goal.decreases-shut_among
-decreases-shut_among l = l.count
