@@ -15,6 +15,7 @@ use Rattle.elf_raw.specs.Numbers.{word_at}
 use Rattle.elf_raw.specs.Refusal.{IsSound}
 use Rattle.elf_raw.specs.Relocations.{relocations_of}
 use Rattle.elf_raw.specs.Symbols.{symbols_of}
+use Rattle.elf_raw.proofs.LawsOfPieces.{passes-within, within-passes}
 use Rattle.rv_code.specs.declared.extent.Extent.{Extent}
 use Rattle.rv_code.specs.declared.image.Name.{Name}
 use Rattle.rv_code.specs.declared.image.Region.{Region}
@@ -120,14 +121,11 @@ range_words bytes extent above =
 range_count : (bytes : List ℕ) (extent : Extent) → length (range_of bytes extent).words ≡ extent.count
 range_count bytes extent = length-map (words_of extent) (value_at bytes) ∙ length-words_of extent
 
-held_within : (whole offset size count : ℕ) → (not (eqb size 0) && nat_lt whole (offset + size)) ≡ false → 0 < count → count ≤ size → offset + size ≤ whole
-held_within whole offset size count held some within = grind (arith, nat_tests)
-
 -- an extent in the load's bytes lies where the file has these
 words_in_file : (bytes : List ℕ) (extent : Extent) → HasCodeLoad bytes → IsExtentIn (code_load bytes) extent
     → (code_load bytes).offset + (extent.start - (code_load bytes).vaddr) + 4 * (0 + extent.count) ≤ length bytes
 words_in_file bytes extent load is =
-    let lies = held_within (length bytes) (code_load bytes).offset (code_load bytes).filesz (4 * extent.count) load.held (omega (arith, is.run.some)) (omega (arith, is.above, is.below)) in
+    let lies = passes-within (length bytes) (code_load bytes).offset (code_load bytes).filesz load.held (omega (arith, is.run.some, is.above, is.below)) in
     omega (arith, lies, is.above, is.below)
 
 range-HoldsWords : (bytes : List ℕ) (extent : Extent) → All IsByte bytes → HasCodeLoad bytes → IsExtentIn (code_load bytes) extent
@@ -215,12 +213,6 @@ pub named_of-IsStrictlyIncreasing : (bytes : List ℕ) → IsStrictlyIncreasing 
 named_of-IsStrictlyIncreasing bytes =
     rising-IsStrictlyIncreasing (filter (is_code_word bytes) (map (address_named bytes) (filter is_naming (relocations_of bytes))))
 
-none_past : (whole offset size : ℕ) → (0 < size → offset + size ≤ whole) → (not (eqb size 0) && nat_lt whole (offset + size)) ≡ false
-none_past whole offset size within = elim (cases_eq size 0) [
-  | inl none ↦ and_left (not (eqb size 0)) (nat_lt whole (offset + size)) (ap not (eq-eqb size 0 none))
-  | inr some ↦ and_right (not (eqb size 0)) (nat_lt whole (offset + size)) (le-ltb whole (offset + size) (within (omega arith)))
-]
-
 -- a file of whose program headers none offends has its code in one
 pub has_code_load : (bytes : List ℕ) → IsSound bytes → bad_program_header bytes ≡ None → HasCodeLoad bytes
 has_code_load bytes sound none =
@@ -229,5 +221,5 @@ has_code_load bytes sound none =
       there = (good bytes none).code;
       filled = kept.whole;
       ends = kept.below;
-      held = none_past (length bytes) (code_load bytes).offset (code_load bytes).filesz kept.within;
+      held = within-passes (length bytes) (code_load bytes).offset (code_load bytes).filesz kept.within;
     }

@@ -14,6 +14,7 @@ use Rattle.elf_raw.specs.declared.segment.RawSegment.{RawSegment}
 use Rattle.elf_raw.specs.Header.{header_of}
 use Rattle.elf_raw.specs.Refusal.{IsSound}
 use Rattle.elf_raw.specs.Segments.{segments_of}
+use Rattle.elf_raw.proofs.LawsOfPieces.{passes-within}
 use Rattle.rv_code.specs.declared.image.Region.{Region}
 use Rattle.rv_code.specs.Addresses.{stack_start, tracer_start}
 use Rattle.rv_code.proofs.LawsOfLists.{ordered-IsPermutation}
@@ -84,9 +85,6 @@ code_held bytes none =
     (ordered-IsPermutation (λ (region : Region). region.start) (map (region_of bytes) (filter is_load (segments_of bytes))))
     (Contains-map (region_of bytes) (filter is_load (segments_of bytes)) (code_load bytes) (code_among bytes none))
 
-in_file : (whole offset size : ℕ) → (not (size == 0) && nat_lt whole (offset + size)) ≡ false → 0 < size → offset + size ≤ whole
-in_file whole offset size within some = grind (arith, nat_tests)
-
 in_space : (noted : Bool) (start end : ℕ) → (end ≤ stack_start) ⊎ (IsTrue noted × (tracer_start ≤ start) × (end ≤ 2 ^ 32)) → end ≤ 2 ^ 32
 in_space noted start end (inl below) = omega arith
 in_space noted start end (inr above) = above.2
@@ -101,7 +99,7 @@ code_load_kept bytes sound none =
       code = code_is bytes none;
       held = code_held bytes none;
       whole = kept.good.whole;
-      within = in_file (length bytes) load.offset load.filesz kept.within;
+      within = passes-within (length bytes) load.offset load.filesz kept.within;
       piece = piece_length bytes load kept.within;
       below = in_space (has_note (segments_of bytes)) load.vaddr (load_end load)
           (allowed_cases (has_note (segments_of bytes)) load (load_end load) kept.good.allowed refl);

@@ -1,13 +1,13 @@
 -- The sections of a file by their numbers, and the symbol tables that relocations link.
 use Rattle.std.proofs.Common.{◌≡◌, ℕ, ◌+◌, ◌*◌, ◌/◌, ◌<◌, ◌≤◌, true, false, ◌&&◌, eqb, ltb, List, length, get_or, sym, ap, ◌∙◌, arith}
 use Rattle.std.proofs.lemmas.Bool.{and_parts, lt-ltb, le-ltb, ltb-true, eqb-true}
-use Rattle.std.proofs.lemmas.Bool.Decides.{nat_tests}
 use Rattle.std.proofs.lemmas.List.FromFn.{get_or-map-range_with_len, length-map-range_with_len}
 use Rattle.elf_raw.specs.declared.relocation.RawRelocation.{RawRelocation}
 use Rattle.elf_raw.specs.declared.section.RawSection.{RawSection}
 use Rattle.elf_raw.specs.Header.{header_of}
 use Rattle.elf_raw.specs.Refusal.{reaches_past, IsSound}
 use Rattle.elf_raw.specs.Sections.{has_no_bytes, section_of, sections_of}
+use Rattle.elf_raw.proofs.LawsOfPieces.{passes-within}
 use Rattle.elf_image.specs.Named.{linked, symbol_number, has_entry, has_symbol}
 
 pub section_count : (bytes : List ℕ) (sections : List RawSection) → sections ≡ sections_of bytes → length sections ≡ (header_of bytes).shnum
@@ -54,7 +54,9 @@ pub record IsTable (bytes : List ℕ) (sections : List RawSection) (relocation :
   pub held : (section_of bytes (linked bytes relocation)).offset + 16 * (relocation.info / 256) + 16 ≤ length bytes
 
 entry_within : (bytes : List ℕ) (offset size number : ℕ) → reaches_past bytes offset size ≡ false → number < size / 16 → offset + 16 * number + 16 ≤ length bytes
-entry_within bytes offset size number whole inside = grind (arith, nat_tests)
+entry_within bytes offset size number whole inside =
+    let within = passes-within (length bytes) offset size whole (omega (arith, inside)) in
+    omega (arith, within, inside)
 
 pub table_of : (bytes : List ℕ) (sections : List RawSection) (relocation : RawRelocation) (d : RawSection) → IsSound bytes → sections ≡ sections_of bytes → relocation.section < length sections
     → has_symbol bytes relocation ≡ true → IsTable bytes sections relocation (get_or sections relocation.section d)

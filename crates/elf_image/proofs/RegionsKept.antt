@@ -3,7 +3,7 @@ use Rattle.std.proofs.Common.{◌≡◌, ℕ, ◌+◌, ◌^◌, ◌≤◌, Bool,
 use Rattle.std.specs.Prelude.{◌⊎◌, ◌&&◌, not, ◌==◌, nat_lt, nat_le, is_some}
 use Rattle.std.specs.Bool.{IsTrue}
 use Rattle.std.specs.List.{All, AllByRecursion, filter}
-use Rattle.std.proofs.lemmas.Bool.{or_cases, and_parts, leb-true}
+use Rattle.std.proofs.lemmas.Bool.{cases_lt, or_cases, and_parts, leb-true}
 use Rattle.std.proofs.lemmas.Bool.Decides.{nat_tests}
 use Rattle.std.proofs.lemmas.List.{length-map}
 use Rattle.std.proofs.lemmas.List.Elements.{All-head, All-tail, All-filter, All-map, recursion_from_All}
@@ -13,6 +13,7 @@ use Rattle.elf_raw.specs.Raw.{raw_of}
 use Rattle.elf_raw.specs.declared.segment.RawSegment.{RawSegment}
 use Rattle.elf_raw.specs.Refusal.{reaches_past, IsSound}
 use Rattle.elf_raw.specs.Segments.{segments_of}
+use Rattle.elf_raw.proofs.LawsOfPieces.{passes-within}
 use Rattle.rv_code.specs.declared.image.Region.{Region}
 use Rattle.rv_code.specs.Addresses.{stack_start, tracer_start}
 use Rattle.rv_code.specs.Image.{region_length, region_end, IsRegion, RegionsRise}
@@ -29,12 +30,14 @@ use Rattle.elf_image.proofs.NoteKept.{each_within, piece_bytes, is_some-note_in}
 -- the bytes that a header says lie in the file
 pub piece_length : (bytes : List ℕ) (segment : RawSegment) → reaches_past bytes segment.offset segment.filesz ≡ false → length (piece_of bytes segment) ≡ segment.filesz
 piece_length bytes segment within =
-    reached (length bytes) segment.offset segment.filesz (length (piece_of bytes segment)) within
-    (omega (arith, length-take {A = ℕ} segment.filesz (drop segment.offset bytes), length-drop segment.offset bytes))
-    (omega (arith, length-take {A = ℕ} segment.filesz (drop segment.offset bytes), length-drop segment.offset bytes))
-  where
-    reached : (whole offset size piece : ℕ) → (not (size == 0) && nat_lt whole (offset + size)) ≡ false → piece ≤ size → (offset + size ≤ whole → piece ≡ size) → piece ≡ size
-    reached whole offset size piece within most all = grind (arith, nat_tests)
+    let taken = length-take {A = ℕ} segment.filesz (drop segment.offset bytes) in
+    let left = length-drop segment.offset bytes in
+    elim (cases_lt 0 segment.filesz) [
+      | inl some ↦
+          let inside = passes-within (length bytes) segment.offset segment.filesz within some in
+          omega (arith, inside, taken, left)
+      | inr none ↦ omega (arith, taken)
+    ]
 
 -- what a good load puts into memory, with its bytes in the file
 pub record IsWholeLoad (bytes : List ℕ) (noted : Bool) (segment : RawSegment) : Type 0 where

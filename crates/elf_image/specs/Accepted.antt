@@ -9,10 +9,6 @@ use Rattle.elf_image.specs.Loads.{regions_of, note_in}
 use Rattle.elf_image.specs.Named.{named_of}
 use Rattle.elf_image.specs.Refusal.{image_refusal}
 
--- the most bytes that a program's file may have
-abbrev pub file_limit : ℕ
-file_limit = FILE_LIMIT
-
 abbrev pub image_of : List ℕ → Image
 image_of bytes =
     record {
@@ -26,7 +22,7 @@ image_of bytes =
 
 -- the file has none of the refusals, and this is its image
 pub record IsAccepted (bytes : List ℕ) (image : Image) : Type 0 where
-  pub small : length bytes ≤ file_limit
+  pub small : length bytes ≤ FILE_LIMIT
   pub tables : elf_refusal bytes ≡ None
   pub executable : image_refusal bytes ≡ None
   pub same : image ≡ image_of bytes

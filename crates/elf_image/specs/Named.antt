@@ -8,7 +8,7 @@ use Rattle.elf_raw.specs.declared.section.RawSection.{RawSection}
 use Rattle.elf_raw.specs.Header.{header_of}
 use Rattle.elf_raw.specs.Relocations.{relocations_of}
 use Rattle.elf_raw.specs.Sections.{type_symbols, section_of}
-use Rattle.elf_raw.specs.Symbols.{symbol_of}
+use Rattle.elf_raw.specs.Symbols.{symbol_size, symbol_of}
 use Rattle.rv_code.specs.Numbers.{wrap, unsigned}
 use Rattle.elf_image.specs.CodeWords.{is_code_word}
 
@@ -29,7 +29,7 @@ symbol_number relocation = relocation.info / 256
 
 -- it is a symbol table, and has the symbol with this number
 abbrev pub has_entry : RawSection → ℕ → Bool
-has_entry section number = (section.kind == type_symbols) && nat_lt number (section.size / 16)
+has_entry section number = (section.kind == type_symbols) && nat_lt number (section.size / symbol_size)
 
 -- the linked section is there, and has the symbol
 abbrev pub has_symbol : List ℕ → RawRelocation → Bool

@@ -10,15 +10,9 @@ ghost use Rattle.elf_image.specs.CodeWords.{is_code_word, extents_in};
 ghost use Rattle.elf_image.specs.Named.{is_naming, has_entry, has_symbol, names_nothing, bad_relocation, symbol_value, address_named, named_of};
 
 use crate::sections::is_code;
-use elf_raw::{RawElf, RawRelocation, RawSection, word_at};
+use elf_raw::{RawElf, RawRelocation, RawSection, SYMBOL_SIZE, SYMBOLS, word_at};
 use rv_code::Extent;
 use std::alloc::{AllocError, Global};
-
-/// The type of a symbol table.
-const SYMBOLS: u32 = 2;
-
-/// The bytes of an entry of a symbol table.
-const SYMBOL_SIZE: u32 = 16;
 
 /// Whether a relocation is of a type that names an address: R_RISCV_32, CALL, CALL_PLT, PCREL_HI20, HI20, ADD32 or
 /// 32_PCREL.
@@ -32,7 +26,7 @@ fn is_naming(relocation: &RawRelocation) -> bool
 fn has_entry(section: &RawSection, number: u32) -> bool
     ensures { result ≡ has_entry section.now number }
 {
-    section.kind == SYMBOLS && number < section.size / SYMBOL_SIZE
+    section.kind == SYMBOLS && number < section.size / SYMBOL_SIZE as u32
 }
 
 /// Whether the section that a relocation's own section links is a symbol table, and has the relocation's symbol.
@@ -62,7 +56,7 @@ fn symbol_value(bytes: &[u8], sections: &[RawSection], relocation: &RawRelocatio
 {
     let own = &sections[relocation.section as usize];
     let table = &sections[own.link as usize];
-    let place = table.offset as usize + SYMBOL_SIZE as usize * (relocation.info / 256) as usize;
+    let place = table.offset as usize + SYMBOL_SIZE * (relocation.info / 256) as usize;
     word_at(bytes, place + 4)
 }
 

@@ -1,6 +1,7 @@
 -- Parts that don't meet stand in the file that they are laid into, each at its offset.
 use Rattle.std.proofs.Common.{◌≡◌, ℕ, zero, suc, ◌+◌, ◌<◌, ◌≤◌, List, [], ◌∷◌, length, get_or, inl, inr, refl, sym, ap, subst, ◌∙◌, arith}
 use Rattle.std.proofs.lemmas.Bool.{cases_lt}
+use Rattle.std.proofs.lemmas.List.Elements.{All-tail}
 use Rattle.std.specs.List.{All, AllPairs, fold}
 use Rattle.elf_raw.specs.declared.piece.Piece.{Piece}
 use Rattle.elf_raw.specs.Writable.{IsApart}
@@ -48,10 +49,7 @@ kept_by file part other within apart is =
           ∙ is.byte k here;
     }
 
--- what is said of each of a list, of those behind the first
-rest_of : {X : Type 0} (P : X → Type 0) (x : X) (xs : List X) → All P (x ∷ xs) → All P xs
-rest_of P x xs all = λ k d within. all (suc k) d (omega arith)
-
+-- what is said of each two of a list, of those behind the first
 rest_pairs : {X : Type 0} (R : X → X → Type 0) (x : X) (xs : List X) → AllPairs R (x ∷ xs) → AllPairs R xs
 rest_pairs R x xs all = λ i j d order within. all (suc i) (suc j) d (omega arith) (omega arith)
 
@@ -62,8 +60,8 @@ kept_by_all [] file part within apart is = is
 kept_by_all (other ∷ parts) file part within apart is =
     let here : EndsWithin (length file) other = within 0 other (omega arith) in
     let same : length file ≡ length (lay file other) = sym (length_lay file other.offset other.bytes here) in
-    let rest : All (EndsWithin (length (lay file other))) parts = subst (λ n. All (EndsWithin n) parts) same (rest_of (EndsWithin (length file)) other parts within) in
-    kept_by_all parts (lay file other) part rest (rest_of (IsApart part) other parts apart) (kept_by file part other here (apart 0 other (omega arith)) is)
+    let rest : All (EndsWithin (length (lay file other))) parts = subst (λ n. All (EndsWithin n) parts) same (All-tail (EndsWithin (length file)) other parts within) in
+    kept_by_all parts (lay file other) part rest (All-tail (IsApart part) other parts apart) (kept_by file part other here (apart 0 other (omega arith)) is)
 
 -- each part is there when all are laid
 pub part_at : (parts : List Piece) (file : List ℕ) (k : ℕ) (d : Piece) → All (EndsWithin (length file)) parts → AllPairs IsApart parts → k < length parts
@@ -72,13 +70,13 @@ part_at [] file k d within apart here = absurd (omega arith)
 part_at (part ∷ parts) file zero d within apart here =
     let first : EndsWithin (length file) part = within 0 part (omega arith) in
     let same : length file ≡ length (lay file part) = sym (length_lay file part.offset part.bytes first) in
-    let rest : All (EndsWithin (length (lay file part))) parts = subst (λ n. All (EndsWithin n) parts) same (rest_of (EndsWithin (length file)) part parts within) in
+    let rest : All (EndsWithin (length (lay file part))) parts = subst (λ n. All (EndsWithin n) parts) same (All-tail (EndsWithin (length file)) part parts within) in
     let others : All (IsApart part) parts = λ j e below. apart 0 (suc j) e (omega arith) (omega arith) in
     kept_by_all parts (lay file part) part rest others (at_laid file part.offset part.bytes first)
 part_at (part ∷ parts) file (suc k) d within apart here =
     let first : EndsWithin (length file) part = within 0 part (omega arith) in
     let same : length file ≡ length (lay file part) = sym (length_lay file part.offset part.bytes first) in
-    let rest : All (EndsWithin (length (lay file part))) parts = subst (λ n. All (EndsWithin n) parts) same (rest_of (EndsWithin (length file)) part parts within) in
+    let rest : All (EndsWithin (length (lay file part))) parts = subst (λ n. All (EndsWithin n) parts) same (All-tail (EndsWithin (length file)) part parts within) in
     part_at parts (lay file part) k d rest (rest_pairs IsApart part parts apart) (omega arith)
 
 -- the length of the file stays
@@ -87,5 +85,5 @@ length_all [] file within = refl
 length_all (part ∷ parts) file within =
     let first : EndsWithin (length file) part = within 0 part (omega arith) in
     let same : length (lay file part) ≡ length file = length_lay file part.offset part.bytes first in
-    let rest : All (EndsWithin (length (lay file part))) parts = subst (λ n. All (EndsWithin n) parts) (sym same) (rest_of (EndsWithin (length file)) part parts within) in
+    let rest : All (EndsWithin (length (lay file part))) parts = subst (λ n. All (EndsWithin n) parts) (sym same) (All-tail (EndsWithin (length file)) part parts within) in
     length_all parts (lay file part) rest ∙ same

@@ -1,3 +1,4 @@
+pub mod LawsOfPieces
 mod Sound
 mod NextZero
 mod ZeroIndex

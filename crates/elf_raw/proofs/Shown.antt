@@ -1,15 +1,56 @@
--- How the conditions of writing are shown: parts that don't meet, and what holds of each item or of each two items of a list.
-use Rattle.std.proofs.Common.{◌≡◌, zero, suc, ◌+◌, ◌≤◌, List, [], ◌∷◌, length, arith}
+-- How the conditions of writing are shown of examples: their tables, parts that don't meet, and what holds of each two items of
+-- a list.
+use Rattle.std.proofs.Common.{◌≡◌, ℕ, zero, suc, ◌+◌, ◌≤◌, List, [], ◌∷◌, length, arith}
 use Rattle.std.specs.List.{All, AllPairs}
+use Rattle.elf_raw.specs.declared.header.RawHeader.{RawHeader}
 use Rattle.elf_raw.specs.declared.piece.Piece.{Piece}
+use Rattle.elf_raw.specs.declared.raw.RawElf.{RawElf}
+use Rattle.elf_raw.specs.declared.relocation.RawRelocation.{RawRelocation}
+use Rattle.elf_raw.specs.declared.section.RawSection.{RawSection}
+use Rattle.elf_raw.specs.declared.segment.RawSegment.{RawSegment}
+use Rattle.elf_raw.specs.declared.symbol.RawSymbol.{RawSymbol}
 use Rattle.elf_raw.specs.Writable.{IsApart}
 
-pub all_none : {X : Type 0} (P : X → Type 0) → All P []
-all_none P = λ k d within. absurd (omega arith)
+-- the header of an executable with these tables
+abbrev pub header_with : (phoff shoff flags phentsize phnum shnum shstrndx : ℕ) → RawHeader
+header_with phoff shoff flags phentsize phnum shnum shstrndx =
+    record {
+      ident = 0x7f ∷ 0x45 ∷ 0x4c ∷ 0x46 ∷ 1 ∷ 1 ∷ 1 ∷ 0 ∷ 0 ∷ 0 ∷ 0 ∷ 0 ∷ 0 ∷ 0 ∷ 0 ∷ 0 ∷ [];
+      kind = 2;
+      machine = 243;
+      version = 1;
+      entry = 0x10074;
+      phoff = phoff;
+      shoff = shoff;
+      flags = flags;
+      ehsize = 52;
+      phentsize = phentsize;
+      phnum = phnum;
+      shentsize = 40;
+      shnum = shnum;
+      shstrndx = shstrndx;
+    }
 
-pub all_more : {X : Type 0} (P : X → Type 0) (x : X) (xs : List X) → P x → All P xs → All P (x ∷ xs)
-all_more P x xs here rest zero d within = here
-all_more P x xs here rest (suc k) d within = rest k d (omega arith)
+-- a section of which every field is zero
+abbrev pub null : RawSection
+null =
+    record {
+      name = 0;
+      kind = 0;
+      flags = 0;
+      addr = 0;
+      offset = 0;
+      size = 0;
+      link = 0;
+      info = 0;
+      addralign = 0;
+      entsize = 0;
+      span = record { from = 0; to = 0 };
+    }
+
+abbrev pub raw_with : RawHeader → List RawSegment → List RawSection → List RawSymbol → List RawRelocation → RawElf
+raw_with header segments sections symbols relocations =
+    record { header = header; segments = segments; sections = sections; symbols = symbols; relocations = relocations }
 
 pub pairs_none : {X : Type 0} (R : X → X → Type 0) → AllPairs R []
 pairs_none R = λ i j d order within. absurd (omega arith)

@@ -1,6 +1,7 @@
 -- The file with symbols and relocations can be written.
 use Rattle.std.proofs.Common.{◌≡◌, ℕ, List, [], ◌∷◌, pos, negsuc, false, refl, sym, subst, arith, lit≤}
 use Rattle.std.specs.List.{All, AllPairs, flat_map}
+use Rattle.std.proofs.lemmas.List.Elements.{All-nil, All-cons}
 use Rattle.elf_raw.specs.declared.header.RawHeader.{RawHeader}
 use Rattle.elf_raw.specs.declared.piece.Piece.{Piece}
 use Rattle.elf_raw.specs.declared.raw.RawElf.{RawElf}
@@ -13,42 +14,10 @@ use Rattle.elf_raw.specs.Sections.{section_span, section_in}
 use Rattle.elf_raw.specs.Segments.{segment_span}
 use Rattle.elf_raw.specs.Writable.{IsSpanned, IsApart, IsPlaced, IsHeld, IsTaken, IsWritable}
 use Rattle.elf_raw.specs.Written.{header_bytes, segment_bytes, section_bytes, parts_of, file_end, file_of}
-use Rattle.elf_raw.proofs.Shown.{all_none, all_more, pairs_none, pairs_more, apart_before, apart_behind, apart_none, apart_of_none}
+use Rattle.elf_raw.proofs.Shown.{header_with, null, raw_with, pairs_none, pairs_more, apart_before, apart_behind, apart_none, apart_of_none}
 
 abbrev header : RawHeader
-header =
-    record {
-      ident = 0x7f ∷ 0x45 ∷ 0x4c ∷ 0x46 ∷ 1 ∷ 1 ∷ 1 ∷ 0 ∷ 0 ∷ 0 ∷ 0 ∷ 0 ∷ 0 ∷ 0 ∷ 0 ∷ 0 ∷ [];
-      kind = 2;
-      machine = 243;
-      version = 1;
-      entry = 0x10074;
-      phoff = 0;
-      shoff = 132;
-      flags = 16;
-      ehsize = 52;
-      phentsize = 0;
-      phnum = 0;
-      shentsize = 40;
-      shnum = 4;
-      shstrndx = 2;
-    }
-
-abbrev null : RawSection
-null =
-    record {
-      name = 0;
-      kind = 0;
-      flags = 0;
-      addr = 0;
-      offset = 0;
-      size = 0;
-      link = 0;
-      info = 0;
-      addralign = 0;
-      entsize = 0;
-      span = record { from = 0; to = 0 };
-    }
+header = header_with 0 132 16 0 0 4 2
 
 abbrev symbols_section : RawSection
 symbols_section =
@@ -136,12 +105,12 @@ pieces = pieces_with symbol_bytes relocation_bytes
 
 all_four : {X : Type 0} (P : X → Type 0) (a b c d : X) → P a → P b → P c → P d → All P (a ∷ b ∷ c ∷ d ∷ [])
 all_four P a b c d pa pb pc pd =
-    all_more P a (b ∷ c ∷ d ∷ []) pa (all_more P b (c ∷ d ∷ []) pb (all_more P c (d ∷ []) pc (all_more P d [] pd (all_none P))))
+    All-cons P a (b ∷ c ∷ d ∷ []) pa (All-cons P b (c ∷ d ∷ []) pb (All-cons P c (d ∷ []) pc (All-cons P d [] pd (All-nil P))))
 
 spanned : IsSpanned raw
 spanned =
     record {
-      segments = all_none (λ (segment : RawSegment). segment.span ≡ segment_span segment.offset segment.filesz);
+      segments = All-nil (λ (segment : RawSegment). segment.span ≡ segment_span segment.offset segment.filesz);
       sections =
           all_four (λ (section : RawSection). section.span ≡ section_span section.kind section.offset section.size) null symbols_section strings_section relocations_section refl refl refl refl;
     }
@@ -176,11 +145,11 @@ apart_pieces : AllPairs IsApart (section_table ∷ first_piece ∷ second_piece 
 unfolding section_bytes
 apart_pieces =
     pairs_more IsApart section_table pieces
-    (all_more (IsApart section_table) first_piece (second_piece ∷ []) (apart_behind section_table first_piece (lit≤ tt))
-    (all_more (IsApart section_table) second_piece [] (apart_behind section_table second_piece (lit≤ tt)) (all_none (IsApart section_table))))
+    (All-cons (IsApart section_table) first_piece (second_piece ∷ []) (apart_behind section_table first_piece (lit≤ tt))
+    (All-cons (IsApart section_table) second_piece [] (apart_behind section_table second_piece (lit≤ tt)) (All-nil (IsApart section_table))))
     (pairs_more IsApart first_piece (second_piece ∷ [])
-    (all_more (IsApart first_piece) second_piece [] (apart_before first_piece second_piece (lit≤ tt)) (all_none (IsApart first_piece)))
-    (pairs_more IsApart second_piece [] (all_none (IsApart second_piece)) (pairs_none IsApart)))
+    (All-cons (IsApart first_piece) second_piece [] (apart_before first_piece second_piece (lit≤ tt)) (All-nil (IsApart first_piece)))
+    (pairs_more IsApart second_piece [] (All-nil (IsApart second_piece)) (pairs_none IsApart)))
 
 placed : IsPlaced (parts_of raw pieces)
 unfolding header_bytes segment_bytes section_bytes
@@ -206,7 +175,7 @@ taken =
       flags = refl;
       phentsize = λ some. absurd (omega arith);
       shentsize = λ _. refl;
-      segments = all_none (λ segment. segment_passes 292 segment ≡ false);
+      segments = All-nil (λ segment. segment_passes 292 segment ≡ false);
       sections =
           all_four (λ section. section_misfits 292 (section_in raw.sections) 4 section ≡ false) null symbols_section strings_section relocations_section refl refl refl refl;
     }
@@ -221,15 +190,11 @@ writable =
       taken = subst (IsTaken raw) (sym ends_at) taken;
     }
 
-abbrev raw_with : List RawSegment → List RawSection → List RawSymbol → List RawRelocation → RawElf
-raw_with segments sections symbols relocations =
-    record { header = header; segments = segments; sections = sections; symbols = symbols; relocations = relocations }
-
 pub tables_file : (segments : List RawSegment) (given : List RawSection) (symbols : List RawSymbol) (others : List RawRelocation) (one two : List ℕ)
     → segments ≡ [] → given ≡ sections → symbols ≡ symbols_with [] arm_text [] → others ≡ relocations → one ≡ symbol_bytes → two ≡ relocation_bytes
-    → IsWritable (raw_with segments given symbols others) (pieces_with one two)
+    → IsWritable (raw_with header segments given symbols others) (pieces_with one two)
 tables_file segments given symbols others one two are_segments are_sections are_symbols are_relocations is_one is_two =
-    let same : raw ≡ raw_with segments given symbols others =
-    sym (λ i. raw_with (are_segments i) (are_sections i) (are_symbols i) (are_relocations i)) in
+    let same : raw ≡ raw_with header segments given symbols others =
+    sym (λ i. raw_with header (are_segments i) (are_sections i) (are_symbols i) (are_relocations i)) in
     let parts : pieces ≡ pieces_with one two = sym (λ i. pieces_with (is_one i) (is_two i)) in
     subst (λ (r : RawElf). IsWritable r (pieces_with one two)) same (subst (λ (ps : List Piece). IsWritable raw ps) parts writable)

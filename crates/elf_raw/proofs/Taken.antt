@@ -1,7 +1,6 @@
 -- A file of which no refusal holds.
 use Rattle.std.proofs.Common.{◌≡◌, ℕ, zero, suc, ◌+◌, ◌*◌, ◌/◌, ◌%◌, ◌<◌, ◌≤◌, Bool, true, false, List, length, take, get_or, Option, None, Some, refl, sym, ap, ◌∙◌, arith}
 use Rattle.std.proofs.lemmas.Bool.{cond-false, le-ltb, eq-eqb, and_right}
-use Rattle.std.proofs.lemmas.Bool.Decides.{nat_tests}
 use Rattle.std.proofs.lemmas.List.{take-take, get_or-take}
 use Rattle.std.specs.List.{find, range_with_len}
 use Rattle.std.specs.Option.{option_map, option_or}
@@ -16,10 +15,11 @@ use Rattle.elf_raw.specs.Sections.{section_offset}
 use Rattle.elf_raw.specs.declared.raw.RawElf.{RawElf}
 use Rattle.elf_raw.specs.Writable.{IsTaken}
 use Rattle.elf_raw.specs.Written.{end_of}
+use Rattle.elf_raw.proofs.Ends.{end_within}
+use Rattle.elf_raw.proofs.LawsOfPieces.{within-passes}
 
 pub not_past : (end offset size : ℕ) → end_of offset size ≤ end → passes end offset size ≡ false
-not_past end offset zero within = refl
-not_past end offset (suc size) within = grind (arith, nat_tests)
+not_past end offset size within = within-passes end offset size (λ some. end_within offset size end some within)
 
 pub none_bad : (p : ℕ → Bool) (from count : ℕ) → ((k : ℕ) → k < count → p (from + k) ≡ false) → find p (range_with_len from count) ≡ None
 none_bad p from zero none = refl

@@ -1,6 +1,7 @@
 -- The file of three code words can be written.
 use Rattle.std.proofs.Common.{◌≡◌, ℕ, List, [], ◌∷◌, false, refl, sym, subst, lit≤}
 use Rattle.std.specs.List.{All, AllPairs, flat_map}
+use Rattle.std.proofs.lemmas.List.Elements.{All-nil, All-cons}
 use Rattle.elf_raw.specs.declared.header.RawHeader.{RawHeader}
 use Rattle.elf_raw.specs.declared.piece.Piece.{Piece}
 use Rattle.elf_raw.specs.declared.raw.RawElf.{RawElf}
@@ -13,26 +14,10 @@ use Rattle.elf_raw.specs.Sections.{section_span, section_in}
 use Rattle.elf_raw.specs.Segments.{segment_span}
 use Rattle.elf_raw.specs.Writable.{IsSpanned, IsApart, IsPlaced, IsHeld, IsTaken, IsWritable}
 use Rattle.elf_raw.specs.Written.{header_bytes, segment_bytes, section_bytes, parts_of, file_end, file_of}
-use Rattle.elf_raw.proofs.Shown.{all_none, all_more, pairs_none, pairs_more, apart_before, apart_behind}
+use Rattle.elf_raw.proofs.Shown.{header_with, null, raw_with, pairs_none, pairs_more, apart_before, apart_behind}
 
 abbrev header : RawHeader
-header =
-    record {
-      ident = 0x7f ∷ 0x45 ∷ 0x4c ∷ 0x46 ∷ 1 ∷ 1 ∷ 1 ∷ 0 ∷ 0 ∷ 0 ∷ 0 ∷ 0 ∷ 0 ∷ 0 ∷ 0 ∷ 0 ∷ [];
-      kind = 2;
-      machine = 243;
-      version = 1;
-      entry = 0x10074;
-      phoff = 52;
-      shoff = 128;
-      flags = 0;
-      ehsize = 52;
-      phentsize = 32;
-      phnum = 2;
-      shentsize = 40;
-      shnum = 2;
-      shstrndx = 0;
-    }
+header = header_with 52 128 0 32 2 2 0
 
 abbrev code : RawSegment
 code =
@@ -62,22 +47,6 @@ empty =
       span = record { from = 128; to = 128 };
     }
 
-abbrev null : RawSection
-null =
-    record {
-      name = 0;
-      kind = 0;
-      flags = 0;
-      addr = 0;
-      offset = 0;
-      size = 0;
-      link = 0;
-      info = 0;
-      addralign = 0;
-      entsize = 0;
-      span = record { from = 0; to = 0 };
-    }
-
 abbrev text : RawSection
 text =
     record {
@@ -101,14 +70,14 @@ abbrev piece : Piece
 piece = record { offset = 116; bytes = 0x93 ∷ 0x08 ∷ 0xd0 ∷ 0x05 ∷ 0x13 ∷ 0x05 ∷ 0x70 ∷ 0x00 ∷ 0x73 ∷ 0x00 ∷ 0x00 ∷ 0x00 ∷ [] }
 
 all_two : {X : Type 0} (P : X → Type 0) (x y : X) → P x → P y → All P (x ∷ y ∷ [])
-all_two P x y one two = all_more P x (y ∷ []) one (all_more P y [] two (all_none P))
+all_two P x y one two = All-cons P x (y ∷ []) one (All-cons P y [] two (All-nil P))
 
 all_pairs : (a b c d : Piece) → IsApart a b → IsApart a c → IsApart a d → IsApart b c → IsApart b d → IsApart c d → AllPairs IsApart (a ∷ b ∷ c ∷ d ∷ [])
 all_pairs a b c d ab ac ad bc bd cd =
-    pairs_more IsApart a (b ∷ c ∷ d ∷ []) (all_more (IsApart a) b (c ∷ d ∷ []) ab (all_two (IsApart a) c d ac ad))
+    pairs_more IsApart a (b ∷ c ∷ d ∷ []) (All-cons (IsApart a) b (c ∷ d ∷ []) ab (all_two (IsApart a) c d ac ad))
     (pairs_more IsApart b (c ∷ d ∷ []) (all_two (IsApart b) c d bc bd)
-    (pairs_more IsApart c (d ∷ []) (all_more (IsApart c) d [] cd (all_none (IsApart c)))
-    (pairs_more IsApart d [] (all_none (IsApart d)) (pairs_none IsApart))))
+    (pairs_more IsApart c (d ∷ []) (All-cons (IsApart c) d [] cd (All-nil (IsApart c)))
+    (pairs_more IsApart d [] (All-nil (IsApart d)) (pairs_none IsApart))))
 
 spanned : IsSpanned raw
 spanned =
@@ -169,18 +138,14 @@ writable =
       taken = subst (IsTaken raw) (sym ends_at) taken;
     }
 
-abbrev raw_with : List RawSegment → List RawSection → List RawSymbol → List RawRelocation → RawElf
-raw_with segments sections symbols relocations =
-    record { header = header; segments = segments; sections = sections; symbols = symbols; relocations = relocations }
-
 abbrev pieces_with : List ℕ → List Piece
 pieces_with bytes = record { offset = 116; bytes = bytes } ∷ []
 
 pub three_words : (segments : List RawSegment) (sections : List RawSection) (symbols : List RawSymbol) (relocations : List RawRelocation) (bytes : List ℕ)
     → segments ≡ code ∷ empty ∷ [] → sections ≡ null ∷ text ∷ [] → symbols ≡ [] → relocations ≡ [] → bytes ≡ piece.bytes
-    → IsWritable (raw_with segments sections symbols relocations) (pieces_with bytes)
+    → IsWritable (raw_with header segments sections symbols relocations) (pieces_with bytes)
 three_words segments sections symbols relocations bytes are_segments are_sections are_symbols are_relocations are_bytes =
-    let same : raw ≡ raw_with segments sections symbols relocations =
-    sym (λ i. raw_with (are_segments i) (are_sections i) (are_symbols i) (are_relocations i)) in
+    let same : raw ≡ raw_with header segments sections symbols relocations =
+    sym (λ i. raw_with header (are_segments i) (are_sections i) (are_symbols i) (are_relocations i)) in
     subst (λ (r : RawElf). IsWritable r (pieces_with bytes)) same
     (subst (λ (b : List ℕ). IsWritable raw (pieces_with b)) (sym are_bytes) writable)

@@ -12,12 +12,12 @@ use Rattle.elf_raw.specs.Relocations.{relocations_in}
 use Rattle.elf_raw.specs.Symbols.{symbols_in}
 use Rattle.elf_raw.specs.Written.{word_bytes}
 
--- Elf32_Sym, 16 bytes
+-- Elf32_Sym
 abbrev pub symbol_bytes : RawSymbol → List ℕ
 symbol_bytes symbol =
     word_bytes (symbol.name ∷ symbol.value ∷ symbol.size ∷ []) ++ symbol.info ∷ symbol.other ∷ little_bytes 2 symbol.shndx
 
--- Elf32_Rela, 12 bytes
+-- Elf32_Rela
 abbrev pub relocation_bytes : RawRelocation → List ℕ
 relocation_bytes relocation = word_bytes (relocation.offset ∷ relocation.info ∷ cast_unsigned w32 relocation.addend ∷ [])
 

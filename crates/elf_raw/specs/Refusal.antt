@@ -11,8 +11,10 @@ use Rattle.elf_raw.specs.declared.fault.ElfFault.TheVariants.{NotElf, NotElf32Le
 use Rattle.elf_raw.specs.declared.section.RawSection.{RawSection}
 use Rattle.elf_raw.specs.declared.segment.RawSegment.{RawSegment}
 use Rattle.elf_raw.specs.Header.{header_size, header_of}
-use Rattle.elf_raw.specs.Segments.{segment_offset, segment_of}
-use Rattle.elf_raw.specs.Sections.{type_symbols, type_strings, type_relocations, has_no_bytes, section_offset, section_of}
+use Rattle.elf_raw.specs.Segments.{segment_size, segment_offset, segment_of}
+use Rattle.elf_raw.specs.Relocations.{relocation_size}
+use Rattle.elf_raw.specs.Symbols.{symbol_size}
+use Rattle.elf_raw.specs.Sections.{section_size, type_symbols, type_strings, type_relocations, has_no_bytes, section_offset, section_of}
 
 -- so many bytes from an offset on reach past an end; a piece with no bytes reaches past nothing
 abbrev pub passes : (end offset size : ℕ) → Bool
@@ -38,20 +40,20 @@ segment_passes end segment = passes end segment.offset segment.filesz
 abbrev pub segment_offends : List ℕ → ℕ → Bool
 segment_offends bytes number = segment_passes (length bytes) (segment_of bytes number)
 
--- a symbol table, among so many sections, with entries of another size than 16, or part of an entry, or no string table
+-- a symbol table, among so many sections, with entries of another size, or part of an entry, or no string table
 abbrev pub symbols_misfit : (sections : ℕ → RawSection) → (count : ℕ) → RawSection → Bool
 symbols_misfit sections count section =
     (section.kind == type_symbols)
-    && (not (section.entsize == 16) || not (section.size % 16 == 0)
+    && (not (section.entsize == symbol_size) || not (section.size % symbol_size == 0)
     || not (nat_lt section.link count) || not ((sections section.link).kind == type_strings))
 
 -- the same among those of a file
 abbrev pub symbols_offend : List ℕ → RawSection → Bool
 symbols_offend bytes section = symbols_misfit (section_of bytes) (header_of bytes).shnum section
 
--- a relocation table with entries of another size than 12, or part of an entry
+-- a relocation table with entries of another size, or part of an entry
 abbrev pub relocations_offend : RawSection → Bool
-relocations_offend section = (section.kind == type_relocations) && (not (section.entsize == 12) || not (section.size % 12 == 0))
+relocations_offend section = (section.kind == type_relocations) && (not (section.entsize == relocation_size) || not (section.size % relocation_size == 0))
 
 -- a section, among so many, whose bytes reach past an end or that can't be read
 abbrev pub section_misfits : (end : ℕ) → (sections : ℕ → RawSection) → (count : ℕ) → RawSection → Bool
@@ -74,10 +76,10 @@ bad_section bytes = option_map (section_offset bytes) (find (section_offends byt
 -- the offset of what is wrong with the tables, by the field of the header where that says it
 abbrev pub bad_table : List ℕ → Option ℕ
 bad_table bytes =
-    if not ((header_of bytes).phnum == 0) && not ((header_of bytes).phentsize == 32) then Some 42
-    else (if reaches_past bytes (header_of bytes).phoff (32 * (header_of bytes).phnum) then Some 28
-    else (if not ((header_of bytes).shnum == 0) && not ((header_of bytes).shentsize == 40) then Some 46
-    else (if reaches_past bytes (header_of bytes).shoff (40 * (header_of bytes).shnum) then Some 32
+    if not ((header_of bytes).phnum == 0) && not ((header_of bytes).phentsize == segment_size) then Some 42
+    else (if reaches_past bytes (header_of bytes).phoff (segment_size * (header_of bytes).phnum) then Some 28
+    else (if not ((header_of bytes).shnum == 0) && not ((header_of bytes).shentsize == section_size) then Some 46
+    else (if reaches_past bytes (header_of bytes).shoff (section_size * (header_of bytes).shnum) then Some 32
     else option_or (bad_segment bytes) (bad_section bytes))))
 
 -- a bit of the header's flags
@@ -106,8 +108,8 @@ elf_refusal bytes =
 -- has some; and the string table of each symbol table is there.
 pub record IsSound (bytes : List ℕ) : Type 0 where
   pub header : header_size ≤ length bytes
-  pub segments : reaches_past bytes (header_of bytes).phoff (32 * (header_of bytes).phnum) ≡ false
-  pub sections : reaches_past bytes (header_of bytes).shoff (40 * (header_of bytes).shnum) ≡ false
+  pub segments : reaches_past bytes (header_of bytes).phoff (segment_size * (header_of bytes).phnum) ≡ false
+  pub sections : reaches_past bytes (header_of bytes).shoff (section_size * (header_of bytes).shnum) ≡ false
   pub pieces : (number : ℕ) → number < (header_of bytes).phnum → segment_offends bytes number ≡ false
   pub held : (number : ℕ) → number < (header_of bytes).shnum → has_no_bytes (section_of bytes number).kind ≡ false
       → reaches_past bytes (section_of bytes number).offset (section_of bytes number).size ≡ false

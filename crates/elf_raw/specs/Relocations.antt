@@ -1,13 +1,18 @@
--- Relocation tables with addends (System V ABI, chapter 4, "Relocation": Elf32_Rela). Entries have 12 bytes.
+-- Relocation tables with addends (System V ABI, chapter 4, "Relocation": Elf32_Rela).
 use Rattle.std.specs.Prelude.{ℕ, ◌+◌, ◌*◌, ◌/◌, List, [], map, if◌then◌else◌, ◌==◌}
 use Rattle.std.specs.Int.{cast_signed, w32}
 use Rattle.std.specs.List.{flat_map}
 use Rattle.std.specs.List.{range_with_len}
 use Rattle.elf_raw.specs.declared.section.RawSection.{RawSection}
 use Rattle.elf_raw.specs.declared.relocation.RawRelocation.{RawRelocation}
+use Rattle.elf_raw.specs.declared.relocation.TheConstants.{RELOCATION_SIZE}
 use Rattle.elf_raw.specs.Header.{header_of}
 use Rattle.elf_raw.specs.Numbers.{word_at}
 use Rattle.elf_raw.specs.Sections.{type_relocations, section_of}
+
+-- the bytes of an entry
+abbrev pub relocation_size : ℕ
+relocation_size = RELOCATION_SIZE
 
 -- the entry that stands here, of the section with this number
 abbrev pub relocation_at : List ℕ → (section : ℕ) → ℕ → RawRelocation
@@ -21,11 +26,11 @@ relocation_at bytes section at =
 
 -- the entry at this place of a relocation table, counted from 0; the table is the section with this number
 abbrev pub relocation_of : List ℕ → (number : ℕ) → RawSection → ℕ → RawRelocation
-relocation_of bytes number section place = relocation_at bytes number (section.offset + 12 * place)
+relocation_of bytes number section place = relocation_at bytes number (section.offset + relocation_size * place)
 
 -- the relocations of a relocation table
 abbrev pub relocations_in : List ℕ → (number : ℕ) → RawSection → List RawRelocation
-relocations_in bytes number section = map (relocation_of bytes number section) (range_with_len 0 (section.size / 12))
+relocations_in bytes number section = map (relocation_of bytes number section) (range_with_len 0 (section.size / relocation_size))
 
 -- the relocations of the section with this number, among these, none where it is no relocation table
 abbrev pub relocations_of_section : List ℕ → (sections : ℕ → RawSection) → ℕ → List RawRelocation

@@ -1,11 +1,15 @@
--- The section header table (System V ABI, chapter 4, "Sections": Elf32_Shdr). Entries have 40 bytes.
+-- The section header table (System V ABI, chapter 4, "Sections": Elf32_Shdr).
 use Rattle.std.specs.Prelude.{ℕ, ◌+◌, ◌*◌, Bool, List, map, ◌==◌, ◌||◌, if◌then◌else◌, slice_index_or}
 use Rattle.std.specs.List.{range_with_len}
 use Rattle.ae_nums.specs.declared.span.Span64.{Span64}
 use Rattle.elf_raw.specs.declared.section.RawSection.{RawSection}
-use Rattle.elf_raw.specs.declared.section.TheConstants.{NULL, SYMBOLS, STRINGS, RELOCATIONS, NO_BITS}
+use Rattle.elf_raw.specs.declared.section.TheConstants.{SECTION_SIZE, NULL, SYMBOLS, STRINGS, RELOCATIONS, NO_BITS}
 use Rattle.elf_raw.specs.Header.{header_of}
 use Rattle.elf_raw.specs.Numbers.{word_at}
+
+-- the bytes of an entry
+abbrev pub section_size : ℕ
+section_size = SECTION_SIZE
 
 -- the section types that are used here: SHT_NULL, SHT_SYMTAB, SHT_STRTAB, SHT_RELA, SHT_NOBITS
 abbrev pub type_null : ℕ
@@ -51,7 +55,7 @@ section_in sections number =
 
 -- where the entry with this number stands, counted from 0
 abbrev pub section_offset : List ℕ → ℕ → ℕ
-section_offset bytes number = (header_of bytes).shoff + 40 * number
+section_offset bytes number = (header_of bytes).shoff + section_size * number
 
 -- the entry that stands here
 abbrev pub section_at : List ℕ → ℕ → RawSection

@@ -1,10 +1,15 @@
--- The program header table (System V ABI, chapter 5, "Program Header": Elf32_Phdr). Entries have 32 bytes.
+-- The program header table (System V ABI, chapter 5, "Program Header": Elf32_Phdr).
 use Rattle.std.specs.Prelude.{ℕ, ◌+◌, ◌*◌, List, map}
 use Rattle.std.specs.List.{range_with_len}
 use Rattle.ae_nums.specs.declared.span.Span64.{Span64}
 use Rattle.elf_raw.specs.declared.segment.RawSegment.{RawSegment}
+use Rattle.elf_raw.specs.declared.segment.TheConstants.{SEGMENT_SIZE}
 use Rattle.elf_raw.specs.Header.{header_of}
 use Rattle.elf_raw.specs.Numbers.{word_at}
+
+-- the bytes of an entry
+abbrev pub segment_size : ℕ
+segment_size = SEGMENT_SIZE
 
 -- where so many bytes from an offset stand
 abbrev pub segment_span : (offset filesz : ℕ) → Span64
@@ -12,7 +17,7 @@ segment_span offset filesz = record { from = offset; to = offset + filesz }
 
 -- where the entry with this number stands, counted from 0
 abbrev pub segment_offset : List ℕ → ℕ → ℕ
-segment_offset bytes number = (header_of bytes).phoff + 32 * number
+segment_offset bytes number = (header_of bytes).phoff + segment_size * number
 
 -- the entry that stands here; its bytes are those from its offset on, as many as its filesz says
 abbrev pub segment_at : List ℕ → ℕ → RawSegment

@@ -1,13 +1,18 @@
--- Symbol tables (System V ABI, chapter 4, "Symbol Table": Elf32_Sym). Entries have 16 bytes.
+-- Symbol tables (System V ABI, chapter 4, "Symbol Table": Elf32_Sym).
 use Rattle.std.specs.Prelude.{ℕ, ◌+◌, ◌*◌, ◌/◌, List, [], map, slice_index, if◌then◌else◌, ◌==◌}
 use Rattle.std.specs.List.{flat_map}
 use Rattle.std.specs.List.{range_with_len}
 use Rattle.elf_raw.specs.declared.section.RawSection.{RawSection}
 use Rattle.elf_raw.specs.declared.symbol.RawSymbol.{RawSymbol}
+use Rattle.elf_raw.specs.declared.symbol.TheConstants.{SYMBOL_SIZE}
 use Rattle.elf_raw.specs.Header.{header_of}
 use Rattle.elf_raw.specs.Names.{name_in}
 use Rattle.elf_raw.specs.Numbers.{half_at, word_at}
 use Rattle.elf_raw.specs.Sections.{type_symbols, section_of}
+
+-- the bytes of an entry
+abbrev pub symbol_size : ℕ
+symbol_size = SYMBOL_SIZE
 
 -- the entry that stands here, of the section with this number, whose names are in this string table
 abbrev pub symbol_at : List ℕ → (section : ℕ) → (strings : RawSection) → ℕ → RawSymbol
@@ -25,11 +30,11 @@ symbol_at bytes section strings at =
 
 -- the entry at this place of a symbol table, counted from 0; the table is the section with this number, among these
 abbrev pub symbol_of : List ℕ → (sections : ℕ → RawSection) → (number : ℕ) → RawSection → ℕ → RawSymbol
-symbol_of bytes sections number section place = symbol_at bytes number (sections section.link) (section.offset + 16 * place)
+symbol_of bytes sections number section place = symbol_at bytes number (sections section.link) (section.offset + symbol_size * place)
 
 -- the symbols of a symbol table
 abbrev pub symbols_in : List ℕ → (sections : ℕ → RawSection) → (number : ℕ) → RawSection → List RawSymbol
-symbols_in bytes sections number section = map (symbol_of bytes sections number section) (range_with_len 0 (section.size / 16))
+symbols_in bytes sections number section = map (symbol_of bytes sections number section) (range_with_len 0 (section.size / symbol_size))
 
 -- the symbols of the section with this number, none where it is no symbol table
 abbrev pub symbols_of_section : List ℕ → (sections : ℕ → RawSection) → ℕ → List RawSymbol

@@ -8,8 +8,8 @@ use Rattle.elf_raw.specs.declared.piece.Piece.{Piece}
 use Rattle.elf_raw.specs.declared.raw.RawElf.{RawElf}
 use Rattle.elf_raw.specs.Refusal.{has_magic, segment_passes, section_misfits}
 use Rattle.elf_raw.specs.Relocations.{relocations_among}
-use Rattle.elf_raw.specs.Sections.{section_span, section_in}
-use Rattle.elf_raw.specs.Segments.{segment_span}
+use Rattle.elf_raw.specs.Sections.{section_size, section_span, section_in}
+use Rattle.elf_raw.specs.Segments.{segment_size, segment_span}
 use Rattle.elf_raw.specs.Symbols.{symbols_among}
 use Rattle.elf_raw.specs.Written.{parts_of, file_end, file_of}
 
@@ -52,8 +52,8 @@ pub record IsTaken (raw : RawElf) (end : ℕ) : Type 0 where
   pub machine : raw.header.machine ≡ 243
   -- EF_RISCV_RVC, EF_RISCV_FLOAT_ABI, EF_RISCV_RVE
   pub flags : raw.header.flags % 16 ≡ 0
-  pub phentsize : 0 < raw.header.phnum → raw.header.phentsize ≡ 32
-  pub shentsize : 0 < raw.header.shnum → raw.header.shentsize ≡ 40
+  pub phentsize : 0 < raw.header.phnum → raw.header.phentsize ≡ segment_size
+  pub shentsize : 0 < raw.header.shnum → raw.header.shentsize ≡ section_size
   pub segments : All (λ segment. segment_passes end segment ≡ false) raw.segments
   pub sections : All (λ section. section_misfits end (section_in raw.sections) (length raw.sections) section ≡ false) raw.sections
 

@@ -17,7 +17,7 @@ half_bytes halves = flat_map (little_bytes 2) halves
 abbrev pub word_bytes : List ℕ → List ℕ
 word_bytes words = flat_map (little_bytes 4) words
 
--- Elf32_Ehdr, 52 bytes
+-- Elf32_Ehdr
 unfoldable pub header_bytes : RawHeader → List ℕ
 header_bytes header =
     header.ident
@@ -25,13 +25,13 @@ header_bytes header =
     ++ word_bytes (header.version ∷ header.entry ∷ header.phoff ∷ header.shoff ∷ header.flags ∷ [])
     ++ half_bytes (header.ehsize ∷ header.phentsize ∷ header.phnum ∷ header.shentsize ∷ header.shnum ∷ header.shstrndx ∷ [])
 
--- Elf32_Phdr, 32 bytes
+-- Elf32_Phdr
 unfoldable pub segment_bytes : RawSegment → List ℕ
 segment_bytes segment =
     word_bytes
     (segment.kind ∷ segment.offset ∷ segment.vaddr ∷ segment.paddr ∷ segment.filesz ∷ segment.memsz ∷ segment.flags ∷ segment.align ∷ [])
 
--- Elf32_Shdr, 40 bytes
+-- Elf32_Shdr
 unfoldable pub section_bytes : RawSection → List ℕ
 section_bytes section =
     word_bytes

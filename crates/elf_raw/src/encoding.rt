@@ -1,8 +1,8 @@
 //! The rows of an ELF file's tables, put into a file.
 ghost use Rattle.std.specs.Prelude.{◌≡◌, ◌+◌, ◌≤◌, length};
-ghost use Rattle.elf_raw.specs.Header.{header_of};
-ghost use Rattle.elf_raw.specs.Sections.{section_span, section_at};
-ghost use Rattle.elf_raw.specs.Segments.{segment_span, segment_at};
+ghost use Rattle.elf_raw.specs.Header.{header_size, header_of};
+ghost use Rattle.elf_raw.specs.Sections.{section_size, section_span, section_at};
+ghost use Rattle.elf_raw.specs.Segments.{segment_size, segment_span, segment_at};
 ghost use Rattle.elf_raw.specs.Written.{header_bytes, segment_bytes, section_bytes, laid};
 
 use crate::laying::{put_bytes, put_halves, put_words};
@@ -10,7 +10,7 @@ use crate::{RawHeader, RawSection, RawSegment};
 
 /// Puts the header at the front of a file.
 pub fn put_header(file: &mut [u8], header: RawHeader)
-    requires { 52 ≤ length file.old }
+    requires { header_size ≤ length file.old }
     ensures written { file.new ≡ laid file.old 0 (header_bytes header) }
     ensures back { header_of (header_bytes header) ≡ header }
 {
@@ -44,7 +44,7 @@ pub fn put_header(file: &mut [u8], header: RawHeader)
 /// Puts a program header at an offset of a file.
 #[tactic(auto, unfolding(crate::specs::Written::segment_bytes))]
 pub fn put_segment(file: &mut [u8], at: usize, segment: RawSegment)
-    requires within { at + 32 ≤ length file.old }
+    requires within { at + segment_size ≤ length file.old }
     requires span { segment.span ≡ segment_span segment.offset segment.filesz }
     ensures written { file.new ≡ laid file.old at (segment_bytes segment) }
     ensures back { segment_at (segment_bytes segment) 0 ≡ segment }
@@ -68,7 +68,7 @@ pub fn put_segment(file: &mut [u8], at: usize, segment: RawSegment)
 /// Puts a section header at an offset of a file.
 #[tactic(auto, unfolding(crate::specs::Written::section_bytes))]
 pub fn put_section(file: &mut [u8], at: usize, section: RawSection)
-    requires within { at + 40 ≤ length file.old }
+    requires within { at + section_size ≤ length file.old }
     requires span { section.span ≡ section_span section.kind section.offset section.size }
     ensures written { file.new ≡ laid file.old at (section_bytes section) }
     ensures back { section_at (section_bytes section) 0 ≡ section }

@@ -1,5 +1,5 @@
 ghost use Rattle.std.specs.Prelude.{◌≡◌, ◌≤◌, length};
-ghost use Rattle.elf_raw.specs.Header.{header_of};
+ghost use Rattle.elf_raw.specs.Header.{header_size, header_of};
 
 use crate::numbers::{half_at, word_at};
 
@@ -27,7 +27,7 @@ pub struct RawHeader {
 
 /// The header at the front of a file.
 pub fn read_header(bytes: &[u8]) -> RawHeader
-    requires { 52 ≤ length bytes.now }
+    requires { header_size ≤ length bytes.now }
     ensures { result ≡ header_of bytes.now }
 {
     let mut ident = [0; 16];

@@ -1,14 +1,17 @@
 //! Which files aren't taken, and why.
 ghost use Rattle.std.specs.Prelude.{◌≡◌, ◌*◌, ◌/◌, ◌%◌, ◌==◌, ◌<◌, ◌≤◌, length, false};
 ghost use Rattle.elf_raw.specs.Header.{header_of};
-ghost use Rattle.elf_raw.specs.Sections.{section_of};
+ghost use Rattle.elf_raw.specs.Sections.{section_size, section_of};
 ghost use Rattle.elf_raw.specs.Refusal.{reaches_past, has_magic, segment_offends, symbols_offend, relocations_offend, section_offends, bad_segment, bad_section, bad_table, table_refusal, elf_refusal};
+ghost use Rattle.elf_raw.specs.Segments.{segment_size};
 
 use crate::header::{HEADER_SIZE, RawHeader, read_header};
+use crate::relocation::RELOCATION_SIZE;
 use crate::section::{
     RELOCATIONS, RawSection, SECTION_SIZE, STRINGS, SYMBOLS, has_no_bytes, section_of,
 };
 use crate::segment::{SEGMENT_SIZE, segment_of};
+use crate::symbol::SYMBOL_SIZE;
 use crate::{ElfFault, FILE_LIMIT};
 
 /// Whether so many bytes from an offset on reach past the end of the file. A piece with no bytes reaches past nothing.
@@ -29,7 +32,7 @@ fn has_magic(bytes: &[u8]) -> bool
 fn segment_offends(bytes: &[u8], header: &RawHeader, number: u16) -> bool
     requires header { header.now ≡ header_of bytes.now }
     requires number { number < header.now.phnum }
-    requires whole { reaches_past bytes.now header.now.phoff (32 * header.now.phnum) ≡ false }
+    requires whole { reaches_past bytes.now header.now.phoff (segment_size * header.now.phnum) ≡ false }
     ensures { result ≡ segment_offends bytes.now number }
 {
     let segment = segment_of(bytes, header, number);
@@ -39,12 +42,12 @@ fn segment_offends(bytes: &[u8], header: &RawHeader, number: u16) -> bool
 /// Whether a section that is a symbol table can't be read.
 fn symbols_offend(bytes: &[u8], header: &RawHeader, section: &RawSection) -> bool
     requires header { header.now ≡ header_of bytes.now }
-    requires whole { reaches_past bytes.now header.now.shoff (40 * header.now.shnum) ≡ false }
+    requires whole { reaches_past bytes.now header.now.shoff (section_size * header.now.shnum) ≡ false }
     ensures { result ≡ symbols_offend bytes.now section.now }
 {
     section.kind == SYMBOLS
-        && (section.entsize != 16
-            || section.size % 16 != 0
+        && (section.entsize as usize != SYMBOL_SIZE
+            || section.size as usize % SYMBOL_SIZE != 0
             || section.link >= u32::from(header.shnum)
             || section_of(bytes, header, section.link).kind != STRINGS)
 }
@@ -53,14 +56,16 @@ fn symbols_offend(bytes: &[u8], header: &RawHeader, section: &RawSection) -> boo
 fn relocations_offend(section: &RawSection) -> bool
     ensures { result ≡ relocations_offend section.now }
 {
-    section.kind == RELOCATIONS && (section.entsize != 12 || section.size % 12 != 0)
+    section.kind == RELOCATIONS
+        && (section.entsize as usize != RELOCATION_SIZE
+            || section.size as usize % RELOCATION_SIZE != 0)
 }
 
 /// Whether the section with this number reaches past the end, or can't be read.
 fn section_offends(bytes: &[u8], header: &RawHeader, number: u16) -> bool
     requires header { header.now ≡ header_of bytes.now }
     requires number { number < header.now.shnum }
-    requires whole { reaches_past bytes.now header.now.shoff (40 * header.now.shnum) ≡ false }
+    requires whole { reaches_past bytes.now header.now.shoff (section_size * header.now.shnum) ≡ false }
     ensures { result ≡ section_offends bytes.now number }
 {
     let section = section_of(bytes, header, u32::from(number));
@@ -72,7 +77,7 @@ fn section_offends(bytes: &[u8], header: &RawHeader, number: u16) -> bool
 /// The offset of the first program header that offends.
 fn bad_segment(bytes: &[u8], header: &RawHeader) -> Option<u32>
     requires header { header.now ≡ header_of bytes.now }
-    requires whole { reaches_past bytes.now header.now.phoff (32 * header.now.phnum) ≡ false }
+    requires whole { reaches_past bytes.now header.now.phoff (segment_size * header.now.phnum) ≡ false }
     requires small { length bytes.now ≤ FILE_LIMIT }
     ensures { result ≡ bad_segment bytes.now }
 {
@@ -87,7 +92,7 @@ fn bad_segment(bytes: &[u8], header: &RawHeader) -> Option<u32>
 /// The offset of the first section header that offends.
 fn bad_section(bytes: &[u8], header: &RawHeader) -> Option<u32>
     requires header { header.now ≡ header_of bytes.now }
-    requires whole { reaches_past bytes.now header.now.shoff (40 * header.now.shnum) ≡ false }
+    requires whole { reaches_past bytes.now header.now.shoff (section_size * header.now.shnum) ≡ false }
     requires small { length bytes.now ≤ FILE_LIMIT }
     ensures { result ≡ bad_section bytes.now }
 {
@@ -105,16 +110,24 @@ fn bad_table(bytes: &[u8], header: &RawHeader) -> Option<u32>
     requires small { length bytes.now ≤ FILE_LIMIT }
     ensures { result ≡ bad_table bytes.now }
 {
-    if header.phnum != 0 && header.phentsize != 32 {
+    if header.phnum != 0 && usize::from(header.phentsize) != SEGMENT_SIZE {
         return Some(42);
     }
-    if reaches_past(bytes, header.phoff, 32 * u32::from(header.phnum)) {
+    if reaches_past(
+        bytes,
+        header.phoff,
+        SEGMENT_SIZE as u32 * u32::from(header.phnum),
+    ) {
         return Some(28);
     }
-    if header.shnum != 0 && header.shentsize != 40 {
+    if header.shnum != 0 && usize::from(header.shentsize) != SECTION_SIZE {
         return Some(46);
     }
-    if reaches_past(bytes, header.shoff, 40 * u32::from(header.shnum)) {
+    if reaches_past(
+        bytes,
+        header.shoff,
+        SECTION_SIZE as u32 * u32::from(header.shnum),
+    ) {
         return Some(32);
     }
     match bad_segment(bytes, header) {

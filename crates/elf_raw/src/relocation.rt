@@ -1,5 +1,5 @@
 ghost use Rattle.std.specs.Prelude.{◌≡◌, ◌+◌, ◌≤◌, length};
-ghost use Rattle.elf_raw.specs.Relocations.{relocation_at};
+ghost use Rattle.elf_raw.specs.Relocations.{relocation_size, relocation_at};
 
 use crate::numbers::word_at;
 
@@ -18,7 +18,7 @@ pub struct RawRelocation {
 
 /// The relocation at an offset of a file, of the section with this number.
 pub fn read_relocation(bytes: &[u8], section: u32, at: usize) -> RawRelocation
-    requires { at + 12 ≤ length bytes.now }
+    requires { at + relocation_size ≤ length bytes.now }
     ensures { result ≡ relocation_at bytes.now section at }
 {
     RawRelocation {

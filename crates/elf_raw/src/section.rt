@@ -1,7 +1,7 @@
 ghost use Rattle.std.specs.Prelude.{◌≡◌, ◌+◌, ◌*◌, ◌<◌, ◌≤◌, length, false};
 ghost use Rattle.elf_raw.specs.Header.{header_of};
 ghost use Rattle.elf_raw.specs.Refusal.{reaches_past};
-ghost use Rattle.elf_raw.specs.Sections.{has_no_bytes, section_span, section_at, section_of};
+ghost use Rattle.elf_raw.specs.Sections.{section_size, has_no_bytes, section_span, section_at, section_of};
 
 use crate::RawHeader;
 use crate::numbers::word_at;
@@ -62,7 +62,7 @@ fn span_of(kind: u32, offset: u32, size: u32) -> Span64
 
 /// The section header at an offset of a file.
 pub fn read_section(bytes: &[u8], at: usize) -> RawSection
-    requires { at + 40 ≤ length bytes.now }
+    requires { at + section_size ≤ length bytes.now }
     ensures { result ≡ section_at bytes.now at }
 {
     let kind = word_at(bytes, at + 4);
@@ -87,7 +87,7 @@ pub fn read_section(bytes: &[u8], at: usize) -> RawSection
 pub fn section_of(bytes: &[u8], header: &RawHeader, number: u32) -> RawSection
     requires header { header.now ≡ header_of bytes.now }
     requires number { number < header.now.shnum }
-    requires whole { reaches_past bytes.now header.now.shoff (40 * header.now.shnum) ≡ false }
+    requires whole { reaches_past bytes.now header.now.shoff (section_size * header.now.shnum) ≡ false }
     ensures { result ≡ section_of bytes.now number }
 {
     read_section(

@@ -1,7 +1,7 @@
 ghost use Rattle.std.specs.Prelude.{◌≡◌, ◌+◌, ◌*◌, ◌<◌, ◌≤◌, length, false};
 ghost use Rattle.elf_raw.specs.Header.{header_of};
 ghost use Rattle.elf_raw.specs.Refusal.{reaches_past};
-ghost use Rattle.elf_raw.specs.Segments.{segment_at, segment_of};
+ghost use Rattle.elf_raw.specs.Segments.{segment_size, segment_at, segment_of};
 
 use crate::RawHeader;
 use crate::numbers::word_at;
@@ -27,7 +27,7 @@ pub struct RawSegment {
 
 /// The program header at an offset of a file.
 pub fn read_segment(bytes: &[u8], at: usize) -> RawSegment
-    requires { at + 32 ≤ length bytes.now }
+    requires { at + segment_size ≤ length bytes.now }
     ensures { result ≡ segment_at bytes.now at }
 {
     let offset = word_at(bytes, at + 4);
@@ -52,7 +52,7 @@ pub fn read_segment(bytes: &[u8], at: usize) -> RawSegment
 pub fn segment_of(bytes: &[u8], header: &RawHeader, number: u16) -> RawSegment
     requires header { header.now ≡ header_of bytes.now }
     requires number { number < header.now.phnum }
-    requires whole { reaches_past bytes.now header.now.phoff (32 * header.now.phnum) ≡ false }
+    requires whole { reaches_past bytes.now header.now.phoff (segment_size * header.now.phnum) ≡ false }
     ensures { result ≡ segment_of bytes.now number }
 {
     read_segment(

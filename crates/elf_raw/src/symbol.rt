@@ -1,5 +1,5 @@
 ghost use Rattle.std.specs.Prelude.{◌≡◌, ◌+◌, ◌≤◌, length, IfOk};
-ghost use Rattle.elf_raw.specs.Symbols.{symbol_at};
+ghost use Rattle.elf_raw.specs.Symbols.{symbol_size, symbol_at};
 ghost use Rattle.elf_raw.specs.Inner.Zeros.{zeros_of};
 
 use crate::RawSection;
@@ -35,7 +35,7 @@ pub fn read_symbol(
     at: usize,
 ) -> Result<RawSymbol, AllocError>
     requires index { zeros.now.next ≡ zeros_of bytes.now }
-    requires within { at + 16 ≤ length bytes.now }
+    requires within { at + symbol_size ≤ length bytes.now }
     ensures { IfOk result (λ symbol. symbol ≡ symbol_at bytes.now section strings.now at) }
 {
     let name = word_at(bytes, at);

@@ -28,7 +28,7 @@ fn add_symbols(
     requires small { length bytes.now ≤ FILE_LIMIT }
     ensures { IfOk result (λ _. symbols.new.items ≡ symbols.old.items ++ symbols_in bytes.now (section_of bytes.now) number section.now) }
 {
-    for place in 0..section.size / 16 {
+    for place in 0..section.size / SYMBOL_SIZE as u32 {
         let at = section.offset as usize + SYMBOL_SIZE * place as usize;
         symbols.push(read_symbol(alloc, bytes, zeros, number, strings, at)?)?;
     }

@@ -3,8 +3,8 @@ ghost use Rattle.std.specs.Prelude.{◌≡◌, ◌*◌, ◌<◌, ◌≤◌, ◌+
 ghost use Rattle.elf_raw.specs.Header.{header_of};
 ghost use Rattle.elf_raw.specs.Refusal.{reaches_past, IsSound};
 ghost use Rattle.elf_raw.specs.Relocations.{relocations_in, relocations_of_section, relocations_of};
-ghost use Rattle.elf_raw.specs.Sections.{section_of, sections_of};
-ghost use Rattle.elf_raw.specs.Segments.{segments_of};
+ghost use Rattle.elf_raw.specs.Sections.{section_size, section_of, sections_of};
+ghost use Rattle.elf_raw.specs.Segments.{segment_size, segments_of};
 
 use crate::relocation::{RELOCATION_SIZE, read_relocation};
 use crate::section::{RELOCATIONS, section_of};
@@ -19,7 +19,7 @@ pub fn read_segments(
     header: &RawHeader,
 ) -> Result<Vec<RawSegment>, AllocError>
     requires header { header.now ≡ header_of bytes.now }
-    requires whole { reaches_past bytes.now header.now.phoff (32 * header.now.phnum) ≡ false }
+    requires whole { reaches_past bytes.now header.now.phoff (segment_size * header.now.phnum) ≡ false }
     ensures { IfOk result (λ segments. segments.items ≡ segments_of bytes.now) }
 {
     let mut segments = Vec::with_capacity(alloc, header.phnum as usize)?;
@@ -36,7 +36,7 @@ pub fn read_sections(
     header: &RawHeader,
 ) -> Result<Vec<RawSection>, AllocError>
     requires header { header.now ≡ header_of bytes.now }
-    requires whole { reaches_past bytes.now header.now.shoff (40 * header.now.shnum) ≡ false }
+    requires whole { reaches_past bytes.now header.now.shoff (section_size * header.now.shnum) ≡ false }
     ensures { IfOk result (λ sections. sections.items ≡ sections_of bytes.now) }
 {
     let mut sections = Vec::with_capacity(alloc, header.shnum as usize)?;
@@ -57,7 +57,7 @@ fn add_relocations(
     requires small { length bytes.now ≤ FILE_LIMIT }
     ensures { IfOk result (λ _. relocations.new.items ≡ relocations.old.items ++ relocations_in bytes.now number section.now) }
 {
-    for place in 0..section.size / 12 {
+    for place in 0..section.size / RELOCATION_SIZE as u32 {
         let at = section.offset as usize + RELOCATION_SIZE * place as usize;
         relocations.push(read_relocation(bytes, number, at))?;
     }

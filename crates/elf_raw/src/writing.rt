@@ -1,10 +1,10 @@
 //! Files written from their tables.
 ghost use Rattle.std.specs.Prelude.{◌≡◌, ◌^◌, ◌*◌, ◌<◌, ◌≤◌, length, take, drop, replicate, max, IfOk};
 ghost use Rattle.std.specs.List.{All, flat_map, fold};
-ghost use Rattle.elf_raw.specs.Header.{header_of};
+ghost use Rattle.elf_raw.specs.Header.{header_size, header_of};
 ghost use Rattle.elf_raw.specs.Tables.{AreTablesOf};
-ghost use Rattle.elf_raw.specs.Sections.{section_span, section_at};
-ghost use Rattle.elf_raw.specs.Segments.{segment_span, segment_at};
+ghost use Rattle.elf_raw.specs.Sections.{section_size, section_span, section_at};
+ghost use Rattle.elf_raw.specs.Segments.{segment_size, segment_span, segment_at};
 ghost use Rattle.elf_raw.specs.Writable.{IsCounted, IsWritable};
 ghost use Rattle.elf_raw.specs.Written.{header_bytes, segment_bytes, section_bytes, parts_of, end_of, last_end, file_end, laid, lay, file_of};
 
@@ -26,8 +26,8 @@ fn end_of(offset: u32, size: usize) -> usize
 
 /// Where the last of the header and the tables ends.
 fn tables_end(header: RawHeader) -> usize
-    ensures end { result ≡ max (max 52 (end_of header.phoff (32 * header.phnum))) (end_of header.shoff (40 * header.shnum)) }
-    ensures size { length (header_bytes header) ≡ 52 }
+    ensures end { result ≡ max (max header_size (end_of header.phoff (segment_size * header.phnum))) (end_of header.shoff (section_size * header.shnum)) }
+    ensures size { length (header_bytes header) ≡ header_size }
 {
     let segments = end_of(header.phoff, SEGMENT_SIZE * usize::from(header.phnum));
     let sections = end_of(header.shoff, SECTION_SIZE * usize::from(header.shnum));
@@ -49,7 +49,7 @@ fn pieces_end(before: usize, pieces: &[Piece]) -> usize
 fn size_of(raw: &RawElf, pieces: &[Piece]) -> usize
     requires { IsCounted raw.now }
     ensures end { result ≡ file_end (parts_of raw.now pieces.now) }
-    ensures size { length (header_bytes raw.now.header) ≡ 52 }
+    ensures size { length (header_bytes raw.now.header) ≡ header_size }
 {
     pieces_end(tables_end(raw.header), pieces)
 }
@@ -63,7 +63,7 @@ fn blank_file(alloc: Global, size: usize) -> Result<Vec<u8>, AllocError>
 
 /// Puts the program headers, one after the other.
 fn put_segments(file: &mut [u8], offset: u32, segments: &[RawSegment])
-    requires within { end_of offset (32 * length segments.now) ≤ length file.old }
+    requires within { end_of offset (segment_size * length segments.now) ≤ length file.old }
     requires spanned { All (λ segment. segment.span ≡ segment_span segment.offset segment.filesz) segments.now }
     ensures written { file.new ≡ laid file.old offset (flat_map segment_bytes segments.now) }
     ensures back { All (λ segment. segment_at (segment_bytes segment) 0 ≡ segment) segments.now }
@@ -75,7 +75,7 @@ fn put_segments(file: &mut [u8], offset: u32, segments: &[RawSegment])
 
 /// Puts the section headers, one after the other.
 fn put_sections(file: &mut [u8], offset: u32, sections: &[RawSection])
-    requires within { end_of offset (40 * length sections.now) ≤ length file.old }
+    requires within { end_of offset (section_size * length sections.now) ≤ length file.old }
     requires spanned { All (λ section. section.span ≡ section_span section.kind section.offset section.size) sections.now }
     ensures written { file.new ≡ laid file.old offset (flat_map section_bytes sections.now) }
     ensures back { All (λ section. section_at (section_bytes section) 0 ≡ section) sections.now }
@@ -110,7 +110,7 @@ fn put_pieces(file: &mut [u8], pieces: &[Piece])
 /// Puts the header, the tables and the pieces into a file.
 fn put_parts(file: &mut [u8], raw: &RawElf, pieces: &[Piece])
     requires writable { IsWritable raw.now pieces.now }
-    requires size { length (header_bytes raw.now.header) ≡ 52 }
+    requires size { length (header_bytes raw.now.header) ≡ header_size }
     requires end { length file.old ≡ file_end (parts_of raw.now pieces.now) }
     ensures written { file.new ≡ fold lay file.old (parts_of raw.now pieces.now) }
     ensures header { header_of (header_bytes raw.now.header) ≡ raw.now.header }
