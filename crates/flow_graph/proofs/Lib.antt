@@ -4,7 +4,7 @@ mod Ends
 mod Few
 mod Followed
 mod LawsOfBlocks
-mod LawsOfEdges
+pub mod LawsOfEdges
 mod Leaving
 mod Marked
 mod Named

@@ -1,5 +1,5 @@
 //! The flow graph of an image.
-ghost use Rattle.std.specs.Prelude.{◌≡◌, ◌<◌, ◌^◌, IfOk, is_some, length, nat_lt};
+ghost use Rattle.std.specs.Prelude.{◌≡◌, ◌<◌, ◌^◌, IfOk, Some, is_some, length, nat_lt, slice_get};
 ghost use Rattle.std.specs.List.{AllByRecursion};
 ghost use Rattle.std.specs.Option.{option_map};
 ghost use Rattle.rv_code.specs.Code.{code_word, extents_of, is_code};
@@ -8,6 +8,7 @@ ghost use Rattle.rv_code.specs.Places.{code_addresses, address_of, place_of, Are
 ghost use Rattle.flow_graph.specs.Blocks.{block_at, blocks_of};
 ghost use Rattle.flow_graph.specs.CodeParts.{routine_named, code_parts, has_code, text_numbered};
 ghost use Rattle.flow_graph.specs.Edges.{edges_of};
+ghost use Rattle.flow_graph.specs.RoutineNames.{name_by};
 
 use crate::copies::{addresses_of, copies_of};
 use crate::flow::{Flow, flow_in};
@@ -144,6 +145,21 @@ impl Graph {
         ensures { option_map (λ text. text.now) result ≡ text_numbered self.now.routines number }
     {
         self.routines.name(number)
+    }
+
+    /// How many names of routines there are.
+    pub fn routine_count(&self) -> usize
+        ensures { result ≡ length self.now.routines }
+    {
+        self.routines.len()
+    }
+
+    /// The name of a routine with this number, of which there are more, and the routine's address.
+    pub fn routine_at(&self, number: usize) -> (&[u8], u32)
+        requires { number < length self.now.routines }
+        ensures { slice_get self.now.routines number ≡ Some (name_by (λ text. text.now) result) }
+    {
+        self.routines.numbered(number)
     }
 }
 

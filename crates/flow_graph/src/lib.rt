@@ -18,8 +18,10 @@ mod routines;
 mod walk;
 
 pub use block::Block;
+pub use copies::copies_of;
 pub use edge::{Edge, Kind};
 pub use graph::Graph;
 pub use laws::{
     blocks_are_runs_of_code_words, edges_join_blocks, the_first_symbol_of_a_name_keeps_it,
 };
+pub use walk::address_at;

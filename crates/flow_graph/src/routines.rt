@@ -1,8 +1,8 @@
 //! The names of routines.
-ghost use Rattle.std.specs.Prelude.{◌≡◌, IfOk, OnOk};
+ghost use Rattle.std.specs.Prelude.{◌≡◌, ◌<◌, IfOk, OnOk, Some, length, slice_get};
 ghost use Rattle.std.specs.Option.{option_map};
 ghost use Rattle.flow_graph.specs.CodeParts.{routine_named, first_seen, text_numbered};
-ghost use Rattle.flow_graph.specs.RoutineNames.{with_name};
+ghost use Rattle.flow_graph.specs.RoutineNames.{name_by, with_name};
 
 use indexmap::IndexMap;
 use rv_code::Name;
@@ -64,6 +64,24 @@ impl Routines {
         match self.addresses.get_index(number as usize) {
             Some((text, _)) => Some(text.as_slice()),
             None => None,
+        }
+    }
+
+    /// How many names there are.
+    pub fn len(&self) -> usize
+        ensures { result ≡ length self.now }
+    {
+        self.addresses.len()
+    }
+
+    /// The name with this number, of which there are more, and its address.
+    pub fn numbered(&self, number: usize) -> (&[u8], u32)
+        requires { number < length self.now }
+        ensures { slice_get self.now number ≡ Some (name_by (λ text. text.now) result) }
+    {
+        match self.addresses.get_index(number) {
+            Some((text, address)) => (text.as_slice(), *address),
+            None => unreachable!(),
         }
     }
 }

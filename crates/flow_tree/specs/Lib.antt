@@ -1,0 +1,5 @@
+pub mod Depth
+pub mod Weight
+pub mod WeightsView
+pub mod WitnessEdges
+pub mod Inner
