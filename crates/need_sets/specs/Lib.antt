@@ -1,0 +1,5 @@
+pub mod Words
+pub mod Needed
+pub mod Masks
+pub mod NeedsView
+pub mod Inner
