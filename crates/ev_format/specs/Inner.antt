@@ -1,0 +1,3 @@
+-- What inner functions promise to one another.
+pub mod Filling
+pub mod Bodies

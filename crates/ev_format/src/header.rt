@@ -1,0 +1,42 @@
+//! The header of an event file.
+ghost use Rattle.std.specs.Prelude.{◌≡◌, OnOk, IfErr};
+ghost use Rattle.ae_ports.specs.Content.{Consumes};
+ghost use Rattle.ev_format.specs.Answers.{IfStopped};
+ghost use Rattle.ev_format.specs.Inner.Filling.{HasRisenBy};
+ghost use Rattle.ev_format.specs.Reading.{HeaderStops};
+ghost use Rattle.ev_format.specs.Shapes.{shape_header};
+
+use crate::fill::fill;
+use crate::piece::Piece;
+use crate::{Halt, Shape, Stop};
+use ae_ports::Source;
+
+/// How many bytes a header has.
+pub const HEADER_LENGTH: u64 = 16;
+
+/// Reads the header of an event file, which has to be that of the shape.
+pub fn read_header<S: Source, H: Shape>(shape: &H, source: &mut S) -> Result<(), Halt>
+    ensures whole { OnOk result (Consumes (S.told source.old) (S.told source.new) (shape_header (H.shown shape.now))) }
+    ensures stopped { IfErr result (IfStopped (S.told source.old) (HeaderStops (H.shown shape.now))) }
+    ensures cause { HasRisenBy (S.faults source.old) (S.faults source.new) result }
+    ensures rest { S.same_rest source.old source.new }
+{
+    let mut bytes = [0; 16];
+    fill(source, &mut bytes)?;
+    if bytes.as_slice() != header_of(shape).bytes() {
+        return Err(Halt::Stopped(Stop::OtherProgram));
+    }
+    Ok(())
+}
+
+// the header of a shape's event files
+fn header_of<H: Shape>(shape: &H) -> Piece
+    ensures { result ≡ shape_header (H.shown shape.now) }
+{
+    let mut piece = Piece::new();
+    piece.push(b"AEV1");
+    piece.push_word(shape.entry());
+    piece.push_word(shape.first());
+    piece.push_word(shape.count());
+    piece
+}
