@@ -1,3 +1,4 @@
 pub mod Numbered
 pub mod ElfText
 pub mod CodeText
+pub mod GraphText

@@ -3,7 +3,7 @@ use Rattle.std.proofs.Common.{◌≡◌, subst, ℕ, List, [], Option, Some, sli
 use Rattle.ae_top.specs.declared.status.Status.{Status}
 use Rattle.ae_top.specs.declared.task.Task.{Task}
 use Rattle.ae_top.specs.declared.task.Task.TheVariants.{Run, Plain, Print}
-use Rattle.ae_top.specs.declared.task.Kind.{Kind}
+use Rattle.ae_top.specs.declared.task.PrintKind.{PrintKind}
 use Rattle.ae_top.specs.Inner.Command.{Carries}
 use Rattle.ae_top.specs.Plain.{KeepsPlain}
 use Rattle.ae_top.specs.Printing.{KeepsPrint}
@@ -37,7 +37,7 @@ plain_carried words prog place fuel name trace status before now is named traced
     (subst (λ (name : List ℕ). Carries (KeepsPlain prog name (slice_index_or words place []) fuel status before now) status before now) named
     (subst (λ (trace : List ℕ). Carries (KeepsPlain prog name trace fuel status before now) status before now) traced carries))
 
-pub print_carried : (words : List (List ℕ)) (kind : Kind) (place : ℕ) (name : List ℕ) (status : Status) (before now : World)
+pub print_carried : (words : List (List ℕ)) (kind : PrintKind) (place : ℕ) (name : List ℕ) (status : Status) (before now : World)
     → task_in words ≡ Some (Print kind place) → name ≡ slice_index_or words place []
     → Carries (KeepsPrint kind place name status before now) status before now → CarriesOut words status before now
 print_carried words kind place name status before now is named carries =

@@ -5,7 +5,6 @@ pub mod Fronts
 pub mod Kept
 pub mod KeptTop
 pub mod Named
-pub mod Pieces
 pub mod Printed
 pub mod Ran
 pub mod TooLong

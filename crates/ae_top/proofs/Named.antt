@@ -11,7 +11,7 @@ use Rattle.ae_words.specs.Numbers.{short_positive_number}
 use Rattle.ae_words.specs.Files.{is_file_word, are_file_words}
 use Rattle.ae_words.specs.Options.{no_options, options_given}
 use Rattle.ae_words.specs.Command.{run_with, run_command, plain_command, rewrite_command, regenerate_command, profile_command, print_kind_command, print_command, sample_command, help_command}
-use Rattle.ae_top.specs.declared.task.Kind.{Kind}
+use Rattle.ae_top.specs.declared.task.PrintKind.{PrintKind}
 use Rattle.ae_top.specs.declared.task.Task.{Task}
 use Rattle.ae_top.specs.Task.{task_of, task_in}
 
@@ -90,7 +90,7 @@ profile_of_named count (schema ∷ events ∷ more ∷ rest) = tt
 
 kind_of_named : (count : ℕ) (kind : List ℕ) → 2 < count → Names count (print_kind_command kind)
 kind_of_named count kind h =
-    either count (bytes_eq kind (codes "elf")) _ _ h (either count (bytes_eq kind (codes "code")) _ _ h (either count (bytes_eq kind (codes "graph")) _ _ tt (either count (bytes_eq kind (codes "needs")) _ _ tt (either count (bytes_eq kind (codes "slice")) _ _ tt (either count (bytes_eq kind (codes "schema")) _ _ tt (tt))))))
+    either count (bytes_eq kind (codes "elf")) _ _ h (either count (bytes_eq kind (codes "code")) _ _ h (either count (bytes_eq kind (codes "graph")) _ _ h (either count (bytes_eq kind (codes "needs")) _ _ tt (either count (bytes_eq kind (codes "slice")) _ _ tt (either count (bytes_eq kind (codes "schema")) _ _ tt (tt))))))
 
 print_of_named : (count : ℕ) (words : List (List ℕ)) → length words < count → Names count (print_command words)
 print_of_named count [] h = tt
@@ -140,5 +140,5 @@ pub plain_named_words : (words : List (List ℕ)) (prog trace fuel : ℕ) → ta
     → (prog < length words) × (trace < length words)
 plain_named_words words prog trace fuel is = subst (λ (task : Option Task). MatchOption task ⊤ (Within (length words))) is (named words)
 
-pub print_named_word : (words : List (List ℕ)) (kind : Kind) (file : ℕ) → task_in words ≡ Some (Task.Print kind file) → file < length words
+pub print_named_word : (words : List (List ℕ)) (kind : PrintKind) (file : ℕ) → task_in words ≡ Some (Task.Print kind file) → file < length words
 print_named_word words kind file is = subst (λ (task : Option Task). MatchOption task ⊤ (Within (length words))) is (named words)

@@ -2,34 +2,41 @@
 use Rattle.std.proofs.Common.{◌≡◌, ℕ, List, Option, Some, ap, ◌∙◌, subst}
 use Rattle.std.specs.Option.{option_map, option_or}
 use Rattle.ae_ports.specs.Files.{Files, HasBytes}
+use Rattle.std.specs.Prelude.{if◌then◌else◌, is_some, None}
+use Rattle.elf_image.specs.declared.fault.ImageFault.TheVariants.{Traced}
+use Rattle.elf_image.specs.Loads.{note_in}
 use Rattle.elf_image.specs.Refusal.{image_refusal}
 use Rattle.ae_top.specs.declared.no_file.NoFile.{NoFile}
 use Rattle.ae_top.specs.declared.no_file.NotTaken.{NotTaken}
 use Rattle.ae_top.specs.declared.refusal.Refusal.{Refusal}
 use Rattle.ae_top.specs.declared.refusal.Refusal.TheVariants.{Image}
-use Rattle.ae_top.specs.declared.task.Kind.{Kind}
-use Rattle.ae_top.specs.declared.task.Kind.TheVariants.{Elf, Code}
+use Rattle.ae_top.specs.declared.task.PrintKind.{PrintKind}
+use Rattle.ae_top.specs.declared.task.PrintKind.TheVariants.{Elf, Code, Graph}
 use Rattle.ae_top.specs.NoFile.{IsNotTaken, Lacks}
 use Rattle.ae_top.specs.Printing.{asks_of}
-use Rattle.ae_top.specs.Refusing.{tables_refusal}
+use Rattle.ae_top.specs.Refusing.{tables_refusal, refusal_of}
 use Rattle.ae_top.specs.World.{Port, port, streams}
 
--- what refuses the tables comes first of all that is asked
-asked_first : (kind : Kind) (bytes : List ℕ) (refusal : Refusal) → tables_refusal bytes ≡ Some refusal → asks_of kind bytes ≡ Some refusal
-asked_first Elf bytes refusal is = is
-asked_first Code bytes refusal is = ap (λ first. option_or first (option_map Image (image_refusal bytes))) is
+asked_of_all : (bytes : List ℕ) (refusal : Refusal) → tables_refusal bytes ≡ Some refusal → refusal_of bytes ≡ Some refusal
+asked_of_all bytes refusal is = ap (λ first. option_or first (option_map Image (image_refusal bytes))) is
 
-not_taken_first : (kind : Kind) (bytes : List ℕ) (why : NotTaken) → IsNotTaken tables_refusal why bytes → IsNotTaken (asks_of kind) why bytes
+-- what refuses the tables comes first of all that is asked
+asked_first : (kind : PrintKind) (bytes : List ℕ) (refusal : Refusal) → tables_refusal bytes ≡ Some refusal → asks_of kind bytes ≡ Some refusal
+asked_first Elf bytes refusal is = is
+asked_first Code bytes refusal is = asked_of_all bytes refusal is
+asked_first Graph bytes refusal is = ap (λ first. option_or first (if is_some (note_in bytes) then Some (Image Traced) else None)) (asked_of_all bytes refusal is)
+
+not_taken_first : (kind : PrintKind) (bytes : List ℕ) (why : NotTaken) → IsNotTaken tables_refusal why bytes → IsNotTaken (asks_of kind) why bytes
 not_taken_first kind bytes (NotTaken.Refused refusal) is = asked_first kind bytes refusal is
 not_taken_first kind bytes NotTaken.NoMemory small = small
 
-pub lacks_first : (kind : Kind) (told : Option Files) (name : List ℕ) (why : NoFile) → Lacks tables_refusal told name why → Lacks (asks_of kind) told name why
+pub lacks_first : (kind : PrintKind) (told : Option Files) (name : List ℕ) (why : NoFile) → Lacks tables_refusal told name why → Lacks (asks_of kind) told name why
 lacks_first kind told name NoFile.Missing lacks = lacks
 lacks_first kind told name NoFile.StoreFault lacks = lacks
 lacks_first kind told name (NoFile.NotTaken why) lacks = (lacks.0, lacks.1, not_taken_first kind lacks.0 why lacks.2)
 
 -- a file that was read, and isn't taken
-pub lacks_taken : (kind : Kind) (told : Option Files) (name items bytes : List ℕ) (why : NotTaken) → HasBytes told name items → items ≡ bytes
+pub lacks_taken : (kind : PrintKind) (told : Option Files) (name items bytes : List ℕ) (why : NotTaken) → HasBytes told name items → items ≡ bytes
     → IsNotTaken (asks_of kind) why bytes → Lacks (asks_of kind) told name (NoFile.NotTaken why)
 lacks_taken kind told name items bytes why has same refuses = (bytes, subst (HasBytes told name) same has, refuses)
 

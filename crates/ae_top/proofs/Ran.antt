@@ -13,7 +13,7 @@ use Rattle.ae_top.specs.Inner.Machine.{BlamesStreams, TellsEnd}
 use Rattle.ae_top.specs.Running.{GivesFronts, RanAs, ShowsEnd}
 use Rattle.ae_top.specs.World.{Streams, Blames}
 use Rattle.ae_top.proofs.Blamed.{unblamed, blamed}
-use Rattle.ae_top.proofs.Pieces.{piece_behind, front_behind, front_of_more, whole_front}
+use Rattle.ae_ports.proofs.LawsOfContent.{Appends-behind, AppendsFront-behind, AppendsFront-more, AppendsFront-all}
 
 -- what streams tell of a machine's ports, with another second output
 abbrev pub told_of : Streams → (err : Option (List ℕ)) → Told
@@ -31,14 +31,14 @@ ran_told r held outcome (Ok shown) before now mid is reaches tells = (
     input = reaches.input;
     out = reaches.out;
     err = subst (λ (o : Outcome). Appends before.err.told now.err.told (r.last.err ++ line_of_outcome o)) is
-        (piece_behind before.err.told mid now.err.told r.last.err (line_of_outcome outcome) reaches.err tells.1);
+        (Appends-behind before.err.told mid now.err.told r.last.err (line_of_outcome outcome) reaches.err tells.1);
   },
 )
 ran_told r held outcome (Err fault) before now mid is reaches tells =
     record {
-      out = whole_front before.out.told now.out.told r.last.out reaches.out;
+      out = AppendsFront-all before.out.told now.out.told r.last.out reaches.out;
       err = subst (λ (o : Outcome). AppendsFront before.err.told now.err.told (r.last.err ++ line_of_outcome o)) is
-          (front_behind before.err.told mid now.err.told r.last.err (line_of_outcome outcome) reaches.err tells.1);
+          (AppendsFront-behind before.err.told mid now.err.told r.last.err (line_of_outcome outcome) reaches.err tells.1);
     }
 
 -- a device failed in the midst of the run
@@ -46,16 +46,16 @@ pub ran_failed : (r : Run) (before now : Streams) → FailsBefore r.last (told_o
 ran_failed r before now fails =
     record {
       out = fails.out;
-      err = front_of_more before.err.told now.err.told r.last.err (line_of_outcome (outcome_of r.ending)) fails.err;
+      err = AppendsFront-more before.err.told now.err.told r.last.err (line_of_outcome (outcome_of r.ending)) fails.err;
     }
 
 -- a run that was made, and whose ending isn't told
 pub ran_untold : (r : Run) (held : Held) (before now : Streams) → Reaches r.last (told_of before before.err.told) (told_of now now.err.told) held → GivesFronts r before now
 ran_untold r held before now reaches =
     record {
-      out = whole_front before.out.told now.out.told r.last.out reaches.out;
-      err = front_of_more before.err.told now.err.told r.last.err (line_of_outcome (outcome_of r.ending))
-          (whole_front before.err.told now.err.told r.last.err reaches.err);
+      out = AppendsFront-all before.out.told now.out.told r.last.out reaches.out;
+      err = AppendsFront-more before.err.told now.err.told r.last.err (line_of_outcome (outcome_of r.ending))
+          (AppendsFront-all before.err.told now.err.told r.last.err reaches.err);
     }
 
 -- what is shown whatever the input tells
@@ -63,10 +63,10 @@ pub shows_told : (outcome : Outcome) (answer : Result Outcome MachineFault) (bef
     → Appends before mid shown → TellsEnd outcome answer mid now → ShowsEnd answer before now
 shows_told outcome (Ok other) before mid now shown passed tells = (
   shown,
-  subst (λ (o : Outcome). Appends before now (shown ++ line_of_outcome o)) (sym tells.0) (piece_behind before mid now shown (line_of_outcome outcome) passed tells.1),
+  subst (λ (o : Outcome). Appends before now (shown ++ line_of_outcome o)) (sym tells.0) (Appends-behind before mid now shown (line_of_outcome outcome) passed tells.1),
 )
 shows_told outcome (Err fault) before mid now shown passed tells =
-    (shown ++ take tells.1.0 (line_of_outcome outcome), piece_behind before mid now shown (take tells.1.0 (line_of_outcome outcome)) passed tells.1.2)
+    (shown ++ take tells.1.0 (line_of_outcome outcome), Appends-behind before mid now shown (take tells.1.0 (line_of_outcome outcome)) passed tells.1.2)
 
 -- only the second output may fail at the line of the ending
 pub blames_told : (outcome : Outcome) (answer : Result Outcome MachineFault) (before now : Streams) (mid : ℕ) (told told_now : Option (List ℕ)) (items items_now : ℕ)

@@ -5,12 +5,12 @@ use Rattle.rv_machine.specs.declared.outcome.MachineFault.{MachineFault}
 use Rattle.rv_machine.specs.declared.outcome.Outcome.{Outcome}
 use Rattle.ae_top.specs.Inner.Tracing.{TraceGot}
 use Rattle.ae_top.specs.World.{Blames}
-use Rattle.ae_top.proofs.Pieces.{whole_front}
+use Rattle.ae_ports.proofs.LawsOfContent.{AppendsFront-all}
 
 -- all lines went to the sink, and then came the line of the ending
 pub got_all : (answer : Result Outcome MachineFault) (text : List ℕ) (before now : Option (List ℕ)) → Appends before now text → TraceGot answer text before now
 got_all (Ok shown) text before now all = all
-got_all (Err fault) text before now all = whole_front before now text all
+got_all (Err fault) text before now all = AppendsFront-all before now text all
 
 -- the same of a sink by another name
 pub got_at : (answer : Result Outcome MachineFault) (text : List ℕ) (before now sink_now : Option (List ℕ)) → now ≡ sink_now → TraceGot answer text before now → TraceGot answer text before sink_now

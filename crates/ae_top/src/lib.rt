@@ -5,6 +5,7 @@
 mod ending_lines;
 mod exit;
 mod finishing;
+mod graph;
 mod no_file;
 mod plain;
 mod printing;

@@ -7,12 +7,15 @@ ghost use Rattle.ae_top.specs.Printing.{KeepsPrint};
 ghost use Rattle.ae_top.specs.World.{Port, port, world, Blames};
 
 use crate::Status;
+use crate::graph::graph_of;
 use crate::no_file::{NoFile, NotTaken, status_without};
 use crate::program::{accept_file, read_program, read_tables};
-use crate::task::Kind;
+use crate::task::PrintKind;
 use ae_ports::{Failed, Sink, Store, Word};
+use ae_print::PrintFault;
 use elf_raw::FILE_LIMIT;
-use std::alloc::Global;
+use flow_tree::Weights;
+use std::alloc::{AllocError, Global};
 
 /// Why a file that was read isn't printed, or not all of it.
 #[derive(Clone, Copy, Debug, PartialEq, Eq)]
@@ -21,12 +24,14 @@ pub enum NotPrinted {
     NotTaken(NotTaken),
     /// The output failed.
     OutFault,
+    /// Memory is wanting behind what was printed.
+    NoMemory,
 }
 
 /// Prints what the tables of a file say, whose bytes these are.
 fn print_tables<O: Sink>(alloc: Global, bytes: &[u8], out: &mut O) -> Result<(), NotPrinted>
     requires small { length bytes.now ≤ FILE_LIMIT }
-    ensures prints { Prints Kind.Elf bytes.now result (O.told out.old) (O.told out.new) }
+    ensures prints { Prints PrintKind.Elf bytes.now result (O.told out.old) (O.told out.new) }
     ensures blames { Blames (IsErrOf result NotPrinted.OutFault) (O.faults out.old) (O.faults out.new) }
     ensures rest { O.same_rest out.old out.new }
 {
@@ -43,7 +48,7 @@ fn print_tables<O: Sink>(alloc: Global, bytes: &[u8], out: &mut O) -> Result<(),
 /// Prints the code words of an executable, whose bytes these are.
 fn print_code<O: Sink>(alloc: Global, bytes: &[u8], out: &mut O) -> Result<(), NotPrinted>
     requires small { length bytes.now ≤ FILE_LIMIT }
-    ensures prints { Prints Kind.Code bytes.now result (O.told out.old) (O.told out.new) }
+    ensures prints { Prints PrintKind.Code bytes.now result (O.told out.old) (O.told out.new) }
     ensures blames { Blames (IsErrOf result NotPrinted.OutFault) (O.faults out.old) (O.faults out.new) }
     ensures rest { O.same_rest out.old out.new }
 {
@@ -57,10 +62,32 @@ fn print_code<O: Sink>(alloc: Global, bytes: &[u8], out: &mut O) -> Result<(), N
     }
 }
 
+/// Prints the flow graph of an executable without a note, whose bytes these are.
+fn print_graph<O: Sink>(alloc: Global, bytes: &[u8], out: &mut O) -> Result<(), NotPrinted>
+    requires small { length bytes.now ≤ FILE_LIMIT }
+    ensures prints { Prints PrintKind.Graph bytes.now result (O.told out.old) (O.told out.new) }
+    ensures blames { Blames (IsErrOf result NotPrinted.OutFault) (O.faults out.old) (O.faults out.new) }
+    ensures rest { O.same_rest out.old out.new }
+{
+    let graph = match graph_of(alloc, bytes) {
+        Ok(graph) => graph,
+        Err(why) => return Err(NotPrinted::NotTaken(why)),
+    };
+    let weights = match Weights::by_depth(alloc, &graph) {
+        Ok(weights) => weights,
+        Err(AllocError) => return Err(NotPrinted::NotTaken(NotTaken::NoMemory)),
+    };
+    match ae_print::print_graph(alloc, &graph, &weights, out) {
+        Ok(()) => Ok(()),
+        Err(PrintFault::Failed) => Err(NotPrinted::OutFault),
+        Err(PrintFault::NoMemory) => Err(NotPrinted::NoMemory),
+    }
+}
+
 /// Prints what is asked of the file with these bytes.
 fn print_bytes<O: Sink>(
     alloc: Global,
-    kind: Kind,
+    kind: PrintKind,
     bytes: &[u8],
     out: &mut O,
 ) -> Result<(), NotPrinted>
@@ -70,15 +97,16 @@ fn print_bytes<O: Sink>(
     ensures rest { O.same_rest out.old out.new }
 {
     match kind {
-        Kind::Elf => print_tables(alloc, bytes, out),
-        Kind::Code => print_code(alloc, bytes, out),
+        PrintKind::Elf => print_tables(alloc, bytes, out),
+        PrintKind::Code => print_code(alloc, bytes, out),
+        PrintKind::Graph => print_graph(alloc, bytes, out),
     }
 }
 
 /// Prints what is asked of the file that the store has under this name, which is the word at this place.
 pub fn print<S: Store, O: Sink>(
     alloc: Global,
-    kind: Kind,
+    kind: PrintKind,
     name: &Word,
     place: u32,
     store: &mut S,
@@ -101,6 +129,7 @@ pub fn print<S: Store, O: Sink>(
     match print_bytes(alloc, kind, &bytes, out) {
         Ok(()) => Status::Done,
         Err(NotPrinted::OutFault) => Status::OutFault,
+        Err(NotPrinted::NoMemory) => Status::Memory,
         Err(NotPrinted::NotTaken(why)) => status_without(NoFile::NotTaken(why), place),
     }
 }

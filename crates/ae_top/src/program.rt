@@ -83,7 +83,7 @@ pub fn accept_file(alloc: Global, bytes: &[u8]) -> Result<Image, NotTaken>
 }
 
 /// The image of a file, or why it isn't one that is wanted.
-fn accept_wanted(alloc: Global, bytes: &[u8], wanted: Wanted) -> Result<Image, NotTaken>
+pub fn accept_wanted(alloc: Global, bytes: &[u8], wanted: Wanted) -> Result<Image, NotTaken>
     requires small { length bytes.now ≤ FILE_LIMIT }
     ensures usable { IfOk result (IsUsable (asked_by wanted) bytes.now) }
     ensures no_note { IfOk result (λ image. wanted ≡ Wanted.Original → image.note ≡ None) }

@@ -9,11 +9,13 @@ pub const DEFAULT_FUEL: u64 = 1_000_000_000;
 
 /// What `print` prints of a file.
 #[derive(Clone, Copy, Debug, PartialEq, Eq)]
-pub enum Kind {
+pub enum PrintKind {
     /// Its tables.
     Elf,
     /// Its code words.
     Code,
+    /// Its flow graph.
+    Graph,
 }
 
 /// What is asked for: a command that is carried out today, with the places of its file words among all words and the
@@ -22,7 +24,7 @@ pub enum Kind {
 pub enum Task {
     Run { prog: u32, fuel: u64 },
     Plain { prog: u32, trace: u32, fuel: u64 },
-    Print { kind: Kind, file: u32 },
+    Print { kind: PrintKind, file: u32 },
 }
 
 /// What the words ask for, `None` where they spell no command that is carried out.
@@ -59,18 +61,21 @@ fn task_of(command: Command) -> Option<Task>
             fuel: fuel_of(fuel),
         }),
         Command::PrintElf { file } => Some(Task::Print {
-            kind: Kind::Elf,
+            kind: PrintKind::Elf,
             file,
         }),
         Command::PrintCode { file } => Some(Task::Print {
-            kind: Kind::Code,
+            kind: PrintKind::Code,
+            file,
+        }),
+        Command::PrintGraph { file } => Some(Task::Print {
+            kind: PrintKind::Graph,
             file,
         }),
         Command::Run { .. }
         | Command::Rewrite { .. }
         | Command::Regenerate { .. }
         | Command::Profile { .. }
-        | Command::PrintGraph { .. }
         | Command::PrintNeeds { .. }
         | Command::PrintSlice { .. }
         | Command::PrintSchema { .. }

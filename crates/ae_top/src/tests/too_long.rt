@@ -48,7 +48,13 @@ impl Store for Sized {
 #[test]
 fn reads_no_file_that_is_too_long(rt: HostRuntime) -> Result<(), Fail> {
     let alloc = rt.alloc();
-    let lines = ["run P", "plain P T", "print elf P", "print code P"];
+    let lines = [
+        "run P",
+        "plain P T",
+        "print elf P",
+        "print code P",
+        "print graph P",
+    ];
     for (row, line) in lines.iter().enumerate() {
         for size in [268_435_457, u64::MAX] {
             let mut store = Sized { size, used: false };
