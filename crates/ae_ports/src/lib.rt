@@ -19,8 +19,6 @@ mod steady_source;
 mod store;
 mod store_sink;
 mod store_source;
-#[cfg(test)]
-mod tests;
 mod whole;
 mod word;
 

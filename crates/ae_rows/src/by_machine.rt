@@ -5,9 +5,11 @@ ghost use Rattle.std.specs.Prelude.{◌≡◌, None, IfOk, IfSome};
 
 use crate::counting::Counts;
 use crate::kept_items::KeptItems;
-use crate::machine_ports::{Ports, answer_line, image_of};
+use crate::machine_ports::{Ports, answer_line};
+use crate::registers::registers_text;
 use crate::row::{Kind, Row};
 use ae_nums::item_line;
+use row_answers::image_of;
 use rv_code::Image;
 use rv_machine::{Machine, MachineFault, Outcome, Seen, Step};
 use std::alloc::Global;
@@ -81,7 +83,17 @@ fn runs(alloc: Global, row: &Row, image: &Image) -> io::Result<bool> {
             return Ok(false);
         }
     }
-    Ok(counts.all() == calls && has_taken(alloc, row, &ports, first)?)
+    let is_taken = has_taken(alloc, row, &ports, first)?;
+    Ok(counts.all() == calls && is_taken && has_registers(alloc, row, &machine)?)
+}
+
+/// The machine has the pc and the registers that the row says, if it says them.
+fn has_registers(alloc: Global, row: &Row, machine: &Machine) -> io::Result<bool> {
+    if !row.has(Kind::Registers) {
+        return Ok(true);
+    }
+    let shown = registers_text(alloc, machine)?;
+    Ok(shown.as_slice() == row.bytes(Kind::Registers))
 }
 
 /// A step behind a run comes to what the run came to.

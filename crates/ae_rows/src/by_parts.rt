@@ -1,9 +1,10 @@
-//! Rows of what the top call reads and no command shows: the tables of a file, and the image of an executable.
+//! Rows of what the top call reads and no command shows: the tables of a file, the image of an executable, and what calls
+//! beneath the top call answer.
 use crate::image_text::image_text;
-use crate::machine_ports::image_of;
-use crate::row::{Kind, Row};
+use crate::row::{Kind, Question, Row};
 use crate::tables_text::tables_text;
 use elf_raw::read_raw;
+use row_answers::{Asked, image_of};
 use std::alloc::Global;
 use std::io;
 
@@ -30,6 +31,42 @@ pub fn judge_parts(rt: &HostRuntime, row: &Row) -> io::Result<bool> {
         )? && all;
     }
     Ok(all)
+}
+
+/// Asks what the row asks, prints a line for each other answer, and answers whether there is none.
+pub fn judge_questions(rt: &HostRuntime, row: &Row) -> io::Result<bool> {
+    if row.questions.is_empty() {
+        return Ok(true);
+    }
+    let bytes = row.file(Kind::File, b"P").unwrap_or(&[]);
+    let mut asked = Asked::new(rt.alloc(), bytes)?;
+    let mut all = true;
+    for question in &row.questions {
+        all = judge_question(rt, row, &mut asked, question)? && all;
+    }
+    Ok(all)
+}
+
+fn judge_question(
+    rt: &HostRuntime,
+    row: &Row,
+    asked: &mut Asked,
+    question: &Question,
+) -> io::Result<bool> {
+    let text = question.text.as_str();
+    let Ok(got) = asked.answer(rt.alloc(), text) else {
+        println!(rt; "{}: can't be asked: {text}", row.name.as_str())?;
+        return Ok(false);
+    };
+    if got == question.answer {
+        return Ok(true);
+    }
+    println!(rt;
+        "{}: {text} gives {}",
+        row.name.as_str(),
+        got.escape_ascii()
+    )?;
+    Ok(false)
 }
 
 fn is_text(rt: &HostRuntime, row: &Row, what: &str, kind: Kind, got: &[u8]) -> io::Result<bool> {

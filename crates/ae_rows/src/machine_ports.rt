@@ -5,9 +5,7 @@ use crate::counting::{Counted, Counts, Device};
 use crate::kept_items::KeptItems;
 use crate::row::{Kind, Row};
 use ae_ports::{MemorySink, MemorySource};
-use elf_image::accept;
-use elf_raw::read_raw;
-use rv_code::{Ending, Image};
+use rv_code::Ending;
 use rv_machine::{Machine, MachineFault, Outcome, Step};
 use std::alloc::{AllocError, Global};
 
@@ -88,20 +86,6 @@ impl<'a> Ports<'a> {
         ensures { machine.new.note ≡ None }
     {
         machine.trace(fuel, &mut self.input, &mut self.out, &mut self.err, kept)
-    }
-}
-
-/// The image of an executable of at most a million bytes, if it is accepted.
-pub fn image_of(alloc: Global, bytes: &[u8]) -> Option<Image> {
-    if bytes.len() > 1_000_000 {
-        return None;
-    }
-    let Ok(raw) = read_raw(alloc, bytes) else {
-        return None;
-    };
-    match accept(alloc, &raw, bytes) {
-        Ok(image) => Some(image),
-        Err(_) => None,
     }
 }
 

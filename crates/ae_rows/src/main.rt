@@ -12,12 +12,13 @@ mod judging;
 mod kept_items;
 mod machine_ports;
 mod reading;
+mod registers;
 mod row;
 mod tables_text;
 mod trial;
 
 use by_machine::judge_machine;
-use by_parts::judge_parts;
+use by_parts::{judge_parts, judge_questions};
 use judging::judge;
 use reading::take_line;
 use row::{Call, Kind, Row};
@@ -87,6 +88,7 @@ fn settle(rt: &HostRuntime, row: &Row, tally: &mut Tally) -> io::Result<()> {
         is_right = judge_command(rt, row, command, tally)? && is_right;
     }
     is_right = judge_parts(rt, row)? && is_right;
+    is_right = judge_asked(rt, row, tally)? && is_right;
     if row.is_for_machine {
         is_right = judge_machine(rt, row)? && is_right;
     }
@@ -94,6 +96,12 @@ fn settle(rt: &HostRuntime, row: &Row, tally: &mut Tally) -> io::Result<()> {
         tally.wrong = tally.wrong.saturating_add(1);
     }
     Ok(())
+}
+
+/// Judges the row's questions, each of which is a call.
+fn judge_asked(rt: &HostRuntime, row: &Row, tally: &mut Tally) -> io::Result<bool> {
+    tally.calls = tally.calls.saturating_add(row.questions.len() as u64);
+    judge_questions(rt, row)
 }
 
 /// Judges a command with each call that fails in turn, if the row names such.

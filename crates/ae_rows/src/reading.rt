@@ -1,6 +1,6 @@
 //! The lines of a row.
 use crate::counting::Device;
-use crate::row::{Call, Kind, Row, Text};
+use crate::row::{Call, Kind, Question, Row, Text};
 use row_form::{file_bytes, not_understood, number, plain_bytes, shape, words_of};
 use std::alloc::Global;
 use std::io;
@@ -20,6 +20,7 @@ pub fn take_line(alloc: Global, row: &mut Row, line: &str) -> io::Result<()> {
         "fails" | "calls" => take_calls(alloc, row, key, rest),
         "machine" => take_machine(row, rest),
         "none" => take_none(alloc, row, rest),
+        "ask" => take_question(alloc, row, rest),
         _ => take_bytes(alloc, row, key, rest),
     }
 }
@@ -36,6 +37,7 @@ fn take_bytes(alloc: Global, row: &mut Row, key: &str, rest: &str) -> io::Result
         "out" => take_text(alloc, row, Kind::Out, rest),
         "err" => take_text(alloc, row, Kind::Err, rest),
         "events" => take_text(alloc, row, Kind::Events, rest),
+        "registers" => take_text(alloc, row, Kind::Registers, rest),
         "tables" => take_text(alloc, row, Kind::Tables, rest),
         "image" => take_text(alloc, row, Kind::Image, rest),
         _ => take_shape(alloc, row, key, rest),
@@ -120,6 +122,17 @@ fn take_none(alloc: Global, row: &mut Row, rest: &str) -> io::Result<()> {
     for name in words_of(alloc, rest)? {
         row.none.push(name)?;
     }
+    Ok(())
+}
+
+/// `QUESTION gives ANSWER`.
+fn take_question(alloc: Global, row: &mut Row, rest: &str) -> io::Result<()> {
+    let Some((text, answer)) = rest.split_once(" gives ") else {
+        return Err(not_understood());
+    };
+    let text = String::from_str(alloc, text)?;
+    let answer = plain_bytes(alloc, answer)?;
+    row.questions.push(Question { text, answer })?;
     Ok(())
 }
 

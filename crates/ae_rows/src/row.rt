@@ -27,6 +27,8 @@ pub enum Kind {
     FrontOfErr,
     /// What the sink of a machine's events takes.
     Events,
+    /// The pc and the registers of a machine after its run.
+    Registers,
     /// The lines of the file's tables.
     Tables,
     /// The lines of the executable's image.
@@ -48,6 +50,13 @@ pub struct Call {
     pub number: u64,
 }
 
+/// A question, and the answer that it is to have.
+#[derive(Drop)]
+pub struct Question {
+    pub text: String,
+    pub answer: Vec<u8>,
+}
+
 /// A row as its lines say.
 #[derive(Drop)]
 pub struct Row {
@@ -66,6 +75,8 @@ pub struct Row {
     pub texts: Vec<Text>,
     /// The files that aren't there afterwards.
     pub none: Vec<Vec<u8>>,
+    /// What is asked of calls beneath the top call.
+    pub questions: Vec<Question>,
     /// The first command is carried out by calls of the machine too.
     pub is_for_machine: bool,
     /// How many steps the machine may take.
@@ -89,6 +100,7 @@ impl Row {
             calls: Vec::new(alloc),
             texts: Vec::new(alloc),
             none: Vec::new(alloc),
+            questions: Vec::new(alloc),
             is_for_machine: false,
             fuel: 1_000_000_000,
             has_line: false,
@@ -100,6 +112,7 @@ impl Row {
     pub fn has_calls(&self) -> bool {
         self.is_for_machine
             || !self.commands.is_empty()
+            || !self.questions.is_empty()
             || self.has(Kind::Tables)
             || self.has(Kind::Image)
     }

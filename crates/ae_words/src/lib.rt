@@ -9,6 +9,3 @@ mod options;
 
 pub use command::{Command, read_words};
 pub use files::names_a_file;
-
-#[cfg(test)]
-mod tests;

@@ -15,4 +15,4 @@ mod text;
 pub use forms::file_bytes;
 pub use numerals::{number, numbers, word};
 pub use shaping::shape;
-pub use text::{hex_bytes, not_understood, plain_bytes, word_bytes, words_of};
+pub use text::{counted, hex_bytes, not_understood, plain_bytes, word_bytes, words_of};

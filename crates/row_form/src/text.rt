@@ -72,7 +72,11 @@ pub fn words_of(alloc: Global, text: &str) -> io::Result<Vec<Vec<u8>>> {
 }
 
 /// Splits `COUNT*REST` into the count and the rest; what has no count stands there once.
-fn counted(item: &str) -> io::Result<(u64, &str)> {
+///
+/// # Errors
+///
+/// The count is no number.
+pub fn counted(item: &str) -> io::Result<(u64, &str)> {
     match item.split_once('*') {
         Some((count, rest)) => Ok((number(count)?, rest)),
         None => Ok((1, item)),
