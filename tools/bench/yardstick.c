@@ -40,6 +40,9 @@ static int run_loop(const char *name, unsigned turns) {
   if (strcmp(name, "arithmetic") == 0) loop = arithmetic;
   if (strcmp(name, "memory") == 0) loop = memory;
   if (strcmp(name, "calls") == 0) loop = calls;
+  if (strcmp(name, "compress") == 0) loop = compress;
+  if (strcmp(name, "hash") == 0) loop = hash;
+  if (strcmp(name, "interpret") == 0) loop = interpret;
   if (loop) printf("%u\n", loop(turns));
   return loop != 0;
 }
