@@ -1,13 +1,14 @@
-ghost use Rattle.std.specs.Prelude.{◌≡◌, ◌⊎◌, ◌^◌, ◌<◌, IfOk, IfErr, IfSome, None, length};
+ghost use Rattle.std.specs.Prelude.{◌≡◌, ◌⊎◌, ◌^◌, ◌<◌, IfOk, IfErr, IfSome, None, length, true};
+ghost use Rattle.rv_code.specs.Code.{is_code};
 ghost use Rattle.rv_code.specs.Parts.{HasRegisters};
-ghost use Rattle.rv_code.specs.Numbers.{bytes_of};
+ghost use Rattle.rv_code.specs.Numbers.{bytes_of, number_of};
 ghost use Rattle.rv_memory.specs.Answers.{hole_or, read_at};
 ghost use Rattle.rv_memory.specs.Stretches.{memory_of};
 ghost use Rattle.rv_memory.specs.Outline.{outline};
-ghost use Rattle.rv_memory.specs.Memory.{span, first_shut, written};
-ghost use Rattle.rv_machine.specs.Inner.Decoded.{Contents, IsInstr, decoded_at};
+ghost use Rattle.rv_memory.specs.Memory.{bytes_at, span, first_shut, written};
+ghost use Rattle.rv_machine.specs.Inner.Decoded.{Contents, IsInstr, decoded_at, word_in_memory};
 
-use crate::code::finds_code;
+use crate::code::{finds_code, holds_code};
 use crate::table::{Table, look_for, tables_of};
 use rv_code::{Extent, Instr, decode};
 use rv_memory::{Hole, Memory};
@@ -24,7 +25,7 @@ pub(crate) struct Loaded {
     near: Table,
     others: Vec<Table>,
     code: Vec<Extent>,
-    /// The place in `code` of the extent that the last fetch was in which was in no table.
+    /// The place in `code` of the extent that the last fetch was in which was in no table; past its end before the first.
     near_code: usize,
     /// The number of the region that this fetch was in.
     near_word: usize,
@@ -51,13 +52,14 @@ impl Loaded {
         ensures { IfOk result (λ loaded. loaded ≡ record { code = code.items; memory = memory }) }
     {
         let others = tables_of(alloc, &memory, &code)?;
+        let near_code = code.len();
         Ok(Loaded {
             memory,
             near_data: 0,
             near: Table::new(alloc),
             others,
             code,
-            near_code: 0,
+            near_code,
             near_word: 0,
         })
     }
@@ -71,31 +73,63 @@ impl Loaded {
     {
         match self.near.at(address) {
             Some(instr) => Some(instr),
-            None => self.fetch_anywhere(address),
+            None => Some(decode(self.word_anywhere(address)?)),
         }
     }
 
-    /// The same, of a word that may stand in another table or in none. Of a word in none it is what memory has there now.
-    #[inline(always)]
-    fn fetch_anywhere(&mut self, address: u32) -> Option<Instr>
-        ensures registers { IfSome result HasRegisters }
-        ensures answer { result ≡ decoded_at self.old.code (memory_of self.old.memory) address }
+    /// The code word at an address, of one that isn't in the near table: what memory has there now. The extent of the last such word in no
+    /// table is asked first.
+    #[inline(never)]
+    fn word_anywhere(&mut self, address: u32) -> Option<u32>
+        ensures word { result ≡ word_in_memory self.old.code (memory_of self.old.memory) address }
         ensures same { self.new ≡ self.old }
     {
-        if !self.others.is_empty()
-            && let Some(instr) = self.decoded_at(address)
+        if holds_code(&self.code, self.near_code, address)
+            && let Ok(word) = self.memory.read(&mut self.near_word, address, 4)
         {
-            return Some(instr);
+            return Some(word);
         }
-        if finds_code(&self.code, &mut self.near_code, address) {
-            Some(decode(self.memory.word(&mut self.near_word, address)))
+        self.word_far(address)
+    }
+
+    /// The same, of a word that may stand in another table or in none. A table that it stands in is the near one from now on.
+    #[inline(never)]
+    fn word_far(&mut self, address: u32) -> Option<u32>
+        ensures word { result ≡ word_in_memory self.old.code (memory_of self.old.memory) address }
+        ensures same { self.new ≡ self.old }
+    {
+        if self.takes_table(address) || self.finds_extent(address) {
+            Some(self.word(address))
         } else {
             None
         }
     }
 
-    /// The instruction at an address, if it stands in one of the tables that aren't near.
-    #[inline(never)]
+    /// The number of the four bytes that memory has from an address on.
+    fn word(&mut self, address: u32) -> u32
+        ensures word { result ≡ number_of (bytes_at (memory_of self.old.memory) (span address 4)) }
+        ensures same { self.new ≡ self.old }
+    {
+        self.memory.word(&mut self.near_word, address)
+    }
+
+    /// Whether a code word stands at an address. The extent that it is in is the near one from now on.
+    fn finds_extent(&mut self, address: u32) -> bool
+        ensures found { result ≡ is_code self.old.code address }
+        ensures same { self.new ≡ self.old }
+    {
+        finds_code(&self.code, &mut self.near_code, address)
+    }
+
+    /// Whether the word at an address stands in one of the tables that aren't near, which is then the near one.
+    fn takes_table(&mut self, address: u32) -> bool
+        ensures found { result ≡ true → is_code self.old.code address ≡ true }
+        ensures same { self.new ≡ self.old }
+    {
+        self.decoded_at(address).is_some()
+    }
+
+    /// The instruction at an address, if it stands in one of the tables that aren't near. That table is the near one from now on.
     fn decoded_at(&mut self, address: u32) -> Option<Instr>
         ensures found { IfSome result (λ instr. IsInstr self.old.code (memory_of self.old.memory) address instr) }
         ensures same { self.new ≡ self.old }
