@@ -16,9 +16,6 @@ use Rattle.flow_tree.proofs.LeafTrails.{leaf_trail}
 use Rattle.flow_tree.proofs.Leaves.{same_cell}
 use Rattle.flow_tree.proofs.Least.{mark_cases}
 
-pub filled_have : (edges : List Edge) (marks : List Bool) (cells : List Cell) (number left : ℕ) → IsFilled edges marks cells number left → HaveEdges edges cells left
-filled_have edges marks cells number left filled = record { rest = filled.rest; held = filled.held; count = filled.count }
-
 unmarked_among : (edges : List Edge) (marks : List Bool) (cells : List Cell) (left : ℕ) → length marks ≡ length edges → (filled : IsFilled edges marks cells (length edges) left) → (number : ℕ) → IsUnmarked marks number → IsAmong filled.rest number
 unmarked_among edges marks cells left count filled number is = filled.back number (let within = slice_get_within marks number false is in omega (arith, within, count)) is
 

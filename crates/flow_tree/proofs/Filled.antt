@@ -132,17 +132,6 @@ module _ (edges : List Edge) (rest : List ℕ) (cells : List Cell) (number sourc
         (omega (arith, room.0), omega (arith, room.1))
   ]
 
--- no edge is in the cells yet
-pub none_filled : (edges : List Edge) (marks : List Bool) (cells : List Cell) → ((block : ℕ) → block < length cells → slice_get cells block ≡ Some (record { count = 0; sum = 0 })) → IsFilled edges marks cells 0 0
-none_filled edges marks cells empty = record {
-  rest = [];
-  held = record { once = tt; inner = λ number is. absurd is; each = empty };
-  count = refl;
-  few = omega arith;
-  among = λ edge is. absurd is;
-  back = λ edge less is. absurd (omega arith);
-}
-
 -- one edge more, which is marked
 pub marked_filled : (edges : List Edge) (marks : List Bool) (cells : List Cell) (number left : ℕ) → (IsUnmarked marks number → ⊥) → IsFilled edges marks cells number left → IsFilled edges marks cells (number + 1) left
 marked_filled edges marks cells number left marked before = record {

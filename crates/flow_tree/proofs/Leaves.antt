@@ -18,12 +18,6 @@ use Rattle.flow_tree.proofs.Without.{Without, without}
 abbrev pub no_cell : Cell
 no_cell = record { count = 0; sum = 0 }
 
-abbrev degree : List Edge → ℕ → List ℕ → ℕ
-degree edges block rest = sum_by (end_count edges block) rest
-
-abbrev numbers : List Edge → ℕ → List ℕ → ℕ
-numbers edges block rest = sum_by (λ (n : ℕ). end_count edges block n * n) rest
-
 -- what a leaf's cell says
 pub record LeafEdge (edges : List Edge) (rest : List ℕ) (leaf number : ℕ) : Type 0 where
   pub is : IsAmong rest number

@@ -3,6 +3,7 @@ mod Ordered
 mod Seen
 mod Shallow
 pub mod LawsOfJoins
+pub mod LawsOfCertificates
 mod AmongLists
 mod Certified
 mod Checked

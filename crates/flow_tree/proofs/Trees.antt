@@ -179,26 +179,6 @@ module _ (edges : List Edge) (weights : List ℕ) (grown marks : List Bool) (wai
     pub grows_on : IsGrowing edges weights grown_now marks_now waiting_now root
     grows_on = record { chosen = chosen_now; joined = joined_now; ahead = ahead_now; items = items_now }
 
--- an edge that leads on to no other block waits no more
-pub goes_without : (edges : List Edge) (weights : List ℕ) (grown marks : List Bool) (waiting : List Ranked) (root number : ℕ)
-    → IsGrowing edges weights grown marks (ranked_of weights number ∷ waiting) root
-    → ((one other : ℕ) → Joins edges number one other → IsGrown grown one → IsGrown grown other) → IsGrowing edges weights grown marks waiting root
-goes_without edges weights grown marks waiting root number growing same = record {
-  chosen = growing.chosen;
-  joined = growing.joined;
-  ahead = ahead;
-  items = λ item is. growing.items item (inr is);
-}
-  where
-    ahead : (edge one other : ℕ) → Joins edges edge one other → IsGrown grown one → IsGrown grown other ⊎ Waits edges weights marks waiting root edge one
-    ahead edge one other joined on = elim (growing.ahead edge one other joined on) [
-      | inl other_on ↦ inl other_on
-      | inr waits ↦ elim waits.waits [
-        | inl is ↦ inl (same one other (subst (λ (e : ℕ). Joins edges e one other) (same_number weights edge number is) joined) on)
-        | inr behind ↦ inr (record { waits = behind; rooted = waits.rooted })
-      ]
-    ]
-
 -- what is taken first and then waits is what waited
 pub waited_before : (edges : List Edge) (weights : List ℕ) (grown marks : List Bool) (before after : List Ranked) (root : ℕ)
     → IsPermutation before after → IsGrowing edges weights grown marks before root → IsGrowing edges weights grown marks after root

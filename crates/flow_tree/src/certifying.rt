@@ -81,8 +81,9 @@ pub fn certificate(
     let edges = edges_in(graph);
     let witness = forest.witness.as_slice();
     let number = edge as usize;
+    let is_witness = witness[number];
     match edges[number].to {
-        Some(to) if witness[number] => tree_path(
+        Some(to) if is_witness => tree_path(
             alloc,
             edges,
             witness,

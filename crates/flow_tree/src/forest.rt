@@ -27,7 +27,8 @@ pub fn witnesses(alloc: Global, graph: &Graph, weights: &Weights) -> Result<Fore
     ensures cuts { IfOk result (λ forest. CutsCycles (edges_of graph.now) forest.witness) }
     ensures least { IfOk result (λ forest. HaveLeastWeight (edges_of graph.now) weights.now forest.witness) }
 {
-    let witness = marks_off(alloc, edges_in(graph), graph.blocks().len(), weights)?;
+    let edges = edges_in(graph);
+    let witness = marks_off(alloc, edges, graph.blocks().len(), weights)?;
     Ok(Forest {
         witness: ListOf::from_vec(witness),
     })

@@ -23,6 +23,7 @@ pub use all_depths::depths;
 pub use block_depth::depth;
 pub use certifying::certificate;
 pub use checking::{WorkRow, check_forest};
+pub use edges::edges_in;
 pub use forest::{Forest, witnesses};
 pub use limit::DEPTH_LIMIT;
 pub use weights::Weights;

@@ -210,3 +210,79 @@ module _ {E B : Type 0} {joins leads : E → B → B → Type 0} (undirected : I
   Trail-only mine theirs one two within within_theirs trail trail_theirs =
       Trail-once undirected same set forest mine theirs one two within within_theirs (Trail-StandOnce mine one two within trail) (Trail-StandOnce theirs one two within_theirs trail_theirs)
       (Trail-joins direction mine one two trail) (Trail-joins direction theirs one two trail_theirs)
+
+-- a trail over edges of a set that goes over none twice
+pub record Simple {E B : Type 0} (joins : E → B → B → Type 0) (set : E → Type 0) (one two : B) : Type 0 where
+  pub edges : List E
+  pub trail : Trail joins edges one two
+  pub once : StandOnce edges
+  pub within : (edge : E) → IsAmong edges edge → set edge
+
+-- what comes of a trail from one of its edges on
+record Onward {E B : Type 0} (joins : E → B → B → Type 0) (edges : List E) (edge : E) (two : B) : Type 0 where
+  rest : List E
+  from : B
+  to : B
+  joined : joins edge from to
+  trail : Trail joins rest to two
+  once : StandOnce (edge ∷ rest)
+  among : (other : E) → IsAmong rest other → IsAmong edges other
+
+module _ {E B : Type 0} {joins : E → B → B → Type 0} where
+  onward : (edges : List E) (edge : E) (one two : B) → IsAmong edges edge → StandOnce edges → Trail joins edges one two → Onward joins edges edge two
+  onward [] edge one two is once trail = absurd is
+  onward (first ∷ rest) edge one two (inl equal) once trail = record {
+    rest = rest;
+    from = one;
+    to = trail.0;
+    joined = subst (λ (e : E). joins e one trail.0) (sym equal) trail.1;
+    trail = trail.2;
+    once = subst (λ (e : E). StandOnce (e ∷ rest)) (sym equal) once;
+    among = λ other is. inr is;
+  }
+  onward (first ∷ rest) edge one two (inr behind) once trail = later (onward rest edge trail.0 two behind once.1 trail.2)
+    where
+      later : Onward joins rest edge two → Onward joins (first ∷ rest) edge two
+      later on = record {
+        rest = on.rest;
+        from = on.from;
+        to = on.to;
+        joined = on.joined;
+        trail = on.trail;
+        once = on.once;
+        among = λ other is. inr (on.among other is);
+      }
+
+module _ {E B : Type 0} {joins : E → B → B → Type 0} (undirected : IsUndirected joins) (same : (one two : E) → (one ≡ two) ⊎ (one ≢ two)) {set : E → Type 0} where
+  -- an edge, and then a trail that may go over it again
+  edge_on : (edge : E) (one mid two : B) → set edge → joins edge one mid → Simple joins set mid two → Simple joins set one two
+  edge_on edge one mid two is joined simple = elim (IsAmong-decides same simple.edges edge) [
+    | inr absent ↦ record {
+      edges = edge ∷ simple.edges;
+      trail = (mid, joined, simple.trail);
+      once = (absent, simple.once);
+      within = λ other among. elim among [ inl equal ↦ subst set (sym equal) is | inr behind ↦ simple.within other behind ];
+    }
+    | inl again ↦ from_there (onward simple.edges edge mid two again simple.once simple.trail)
+  ]
+    where
+      from_there : Onward joins simple.edges edge two → Simple joins set one two
+      from_there on = elim (undirected.ends edge one mid on.from on.to joined on.joined) [
+        | inl ends ↦ record {
+          edges = edge ∷ on.rest;
+          trail = (on.to, subst (λ (place : B). joins edge place on.to) (sym ends.0) on.joined, on.trail);
+          once = on.once;
+          within = λ other among. elim among [ inl equal ↦ subst set (sym equal) is | inr behind ↦ simple.within other (on.among other behind) ];
+        }
+        | inr turned ↦ record {
+          edges = on.rest;
+          trail = subst (λ (place : B). Trail joins on.rest place two) (sym turned.0) on.trail;
+          once = on.once.1;
+          within = λ other among. simple.within other (on.among other among);
+        }
+      ]
+
+  -- where a path leads, there leads one that goes over no edge twice
+  pub Path-Simple : {one two : B} → Path joins set one two → Simple joins set one two
+  Path-Simple here = record { edges = []; trail = refl; once = tt; within = λ edge is. absurd is }
+  Path-Simple {two = two} (over {from} {mid} edge is joined rest) = edge_on edge from mid two is joined (Path-Simple rest)

@@ -12,7 +12,7 @@ use Rattle.flow_tree.proofs.LawsOfJoins.{leaving_joins_none}
 use Rattle.flow_tree.proofs.Least.{both_marks}
 use Rattle.flow_tree.proofs.Sides.{no_edge, edge_leads, leaves_code}
 use Rattle.flow_tree.proofs.certifying.certificate.Goals as goal
-use Rattle.flow_tree.proofs.certifying.certificate.Goals.{in_default-via-in-Some+else-witness-number, in_default-via-in_default}
+use Rattle.flow_tree.proofs.certifying.certificate.Goals.{in_default-via-in-Some+else-is_witness, in_default-via-in_default}
 
 pub tree_path-requires-clause-blocks : goal.tree_path-requires-clause-blocks
 tree_path-requires-clause-blocks c = λ edge one other joined.
@@ -37,7 +37,7 @@ returns-in-Some c =
     let leads = edge_leads c.edges_in-edges.result.now c.args.edge c.in-Some.to within c.in-Some.is in
     let count : length c.args.forest.now.witness ≡ length (edges_of c.args.graph.now) = c.requires.grown.witnesses.count in
     let marked : IsMarked c.as_slice-witness.result.now c.args.edge =
-    slice_get-get_or c.as_slice-witness.result.now c.args.edge false (omega (arith, c.requires.edge, count, ap (length {A = Bool}) c.as_slice-witness.ensures)) ∙ ap (λ (b : Bool). Some b) c.if-witness-number.true
+    slice_get-get_or c.as_slice-witness.result.now c.args.edge false (omega (arith, c.requires.edge, count, ap (length {A = Bool}) c.as_slice-witness.ensures)) ∙ ap (λ (b : Bool). Some b) c.if-is_witness.true
     in
     IfOk-weaker c.tree_path.result
     (λ (path : Vec ℕ Global). IsTreePath c.edges_in-edges.result.now c.as_slice-witness.result.now path.items (get_or c.edges_in-edges.result.now c.args.edge no_edge).source c.in-Some.to)
@@ -53,10 +53,10 @@ returns-in_default c =
     let within : c.args.edge < length c.edges_in-edges.result.now = omega (arith, c.requires.edge, ap (length {A = Edge}) c.edges_in-edges.ensures.edges) in
     let count : length c.args.forest.now.witness ≡ length (edges_of c.args.graph.now) = c.requires.grown.witnesses.count in
     elim c.in_default.branch [
-      | in_default-via-in-Some+else-witness-number w ↦
+      | in_default-via-in-Some+else-is_witness w ↦
           let unmarked : IsUnmarked c.args.forest.now.witness c.args.edge =
           subst (λ (marks : List Bool). IsUnmarked marks c.args.edge) c.as_slice-witness.ensures
-          (slice_get-get_or c.as_slice-witness.result.now c.args.edge false (omega (arith, c.requires.edge, count, ap (length {A = Bool}) c.as_slice-witness.ensures)) ∙ ap (λ (b : Bool). Some b) w.if-witness-number.false)
+          (slice_get-get_or c.as_slice-witness.result.now c.args.edge false (omega (arith, c.requires.edge, count, ap (length {A = Bool}) c.as_slice-witness.ensures)) ∙ ap (λ (b : Bool). Some b) w.if-is_witness.false)
           in
           none_needed (edges_of c.args.graph.now) c.args.forest.now.witness c.args.edge c.new.result.items c.new.ensures.items
           (λ from to marked leads. both_marks c.args.forest.now.witness c.args.edge marked unmarked)
