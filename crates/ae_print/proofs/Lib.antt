@@ -1,4 +1,9 @@
+mod EdgeText
 mod GivenBack
+mod GraphTexts
 mod Joined
+mod Lines
 mod Rows
+mod Short
+mod SomeFinished
 mod Wrapped

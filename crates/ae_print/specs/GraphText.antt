@@ -1,6 +1,6 @@
 -- The text of a flow graph: its routines, its blocks and its edges, a line for each. This project's own. Numbers, depths and weights are
 -- decimal; addresses have eight hexadecimal digits.
-use Rattle.std.specs.Prelude.{ℕ, ◌&&◌, List, [], ◌∷◌, ◌++◌, codes, nat_le, slice_index, if◌then◌else◌}
+use Rattle.std.specs.Prelude.{◌≡◌, ℕ, ◌<◌, Bool, true, false, ◌&&◌, List, [], ◌∷◌, ◌++◌, length, Option, Some, None, codes, nat_le, slice_index, slice_index_or, if◌then◌else◌}
 use Rattle.std.specs.List.{flat_map}
 use Rattle.rv_code.specs.declared.image.Name.{Name}
 use Rattle.ae_nums.specs.Decimal.{decimal_text}
@@ -14,6 +14,7 @@ use Rattle.flow_graph.specs.Blocks.{blocks_of}
 use Rattle.flow_graph.specs.CodeParts.{CodeParts}
 use Rattle.flow_graph.specs.Edges.{edges_of}
 use Rattle.flow_tree.specs.Depth.{depth_of}
+use Rattle.flow_tree.specs.WitnessEdges.{IsCertificate}
 use Rattle.ae_print.specs.Numbered.{numbered_lines}
 
 -- a byte of a name: from 21 to 7e as it is, and else as `\x` and its two digits
@@ -56,18 +57,39 @@ edge_front number edge = codes "edge " ++ decimal_text number ++ codes " " ++ he
 abbrev pub weight_text : ℕ → List ℕ
 weight_text weight = codes " weight " ++ decimal_text weight
 
--- as `edge 2 0001008c taken 0001007c weight 16`, and then what is said of the edge behind its weight
-abbrev pub edge_line : (rest : List ℕ) → (number weight : ℕ) → Edge → List ℕ
-edge_line rest number weight edge = edge_front number edge ++ weight_text weight ++ rest ++ newline
+-- the numbers of a path's edges, each behind a blank
+abbrev pub step_text : (edge : ℕ) → List ℕ
+step_text edge = codes " " ++ decimal_text edge
 
--- The lines of the edges with these weights. What is said behind the weight is given by an edge's number.
-abbrev pub edge_lines : (rest_of : ℕ → List ℕ) → CodeParts → (weights : List ℕ) → List ℕ
-edge_lines rest_of parts weights = numbered_lines (λ number edge. edge_line (rest_of number) number (slice_index weights number) edge) (edges_of parts)
+abbrev pub path_text : (path : List ℕ) → List ℕ
+path_text path = flat_map step_text path
 
--- so far nothing
-abbrev pub nothing_more : (edge : ℕ) → List ℕ
-nothing_more edge = []
+-- What is said of an edge behind its weight: that it is no witness, or else that it leaves the code, or else that it is another witness,
+-- and by which path.
+abbrev pub mark_text : (is_witness : Bool) → (to : Option ℕ) → (path : List ℕ) → List ℕ
+mark_text false to path = codes " tree"
+mark_text true None path = codes " leaves"
+mark_text true (Some block) path = codes " witness" ++ path_text path
+
+-- as `edge 1 00010074 taken 00010078 weight 1 witness 0`
+abbrev pub edge_line : (is_witness : Bool) → (path : List ℕ) → (number weight : ℕ) → Edge → List ℕ
+edge_line is_witness path number weight edge = edge_front number edge ++ weight_text weight ++ mark_text is_witness edge.to path ++ newline
+
+-- The lines of the edges, with a weight, a mark and a path for each number.
+abbrev pub edge_lines : CodeParts → (weights : List ℕ) → (marks : List Bool) → (path_of : ℕ → List ℕ) → List ℕ
+edge_lines parts weights marks path_of =
+    numbered_lines (λ number edge. edge_line (slice_index_or marks number false) (path_of number) number (slice_index weights number) edge) (edges_of parts)
 
 -- the routines, the blocks and the edges
-abbrev pub graph_text : (rest_of : ℕ → List ℕ) → CodeParts → (weights : List ℕ) → List ℕ
-graph_text rest_of parts weights = routine_lines parts.routines ++ block_lines parts ++ edge_lines rest_of parts weights
+abbrev pub graph_text : CodeParts → (weights : List ℕ) → (marks : List Bool) → (path_of : ℕ → List ℕ) → List ℕ
+graph_text parts weights marks path_of = routine_lines parts.routines ++ block_lines parts ++ edge_lines parts weights marks path_of
+
+-- these paths are the certificates of the edges, by their numbers
+abbrev pub AreCertificates : List Edge → (marks : List Bool) → (path_of : ℕ → List ℕ) → Type 0
+AreCertificates edges marks path_of = (number : ℕ) → number < length edges → IsCertificate edges marks number (path_of number)
+
+-- The text of a graph of which these edges are marked as witnesses. The paths are the edges' certificates, of which each edge has one.
+pub record IsGraphText (parts : CodeParts) (weights : List ℕ) (marks : List Bool) (text : List ℕ) : Type 0 where
+  pub path_of : ℕ → List ℕ
+  pub certificates : AreCertificates (edges_of parts) marks path_of
+  pub is : text ≡ graph_text parts weights marks path_of

@@ -1,4 +1,9 @@
 pub mod Numbered
+pub mod Lines
+pub mod SomeText
 pub mod ElfText
 pub mod CodeText
 pub mod GraphText
+pub mod NeedsText
+pub mod SliceText
+pub mod Inner

@@ -1,13 +1,19 @@
 //! The lines of edges.
-ghost use Rattle.std.specs.Prelude.{◌≡◌, ◌++◌, length};
+ghost use Rattle.std.specs.Prelude.{◌≡◌, ℕ, List, ◌++◌, length};
 ghost use Rattle.ae_nums.specs.Writer.{Puts};
 ghost use Rattle.flow_graph.specs.Edges.{edges_of};
-ghost use Rattle.ae_print.specs.GraphText.{edge_front, edge_line, edge_lines, kind_text, nothing_more, weight_text};
+ghost use Rattle.flow_tree.specs.WitnessEdges.{AreGrown};
+ghost use Rattle.ae_print.specs.GraphText.{AreCertificates, edge_front, edge_line, edge_lines, kind_text, weight_text};
+ghost use Rattle.ae_print.specs.Inner.Short.{PutsShort};
 
+use crate::PrintFault;
+use crate::mark::write_mark;
 use crate::pieces::{push_number, push_word};
 use ae_nums::{LineWriter, Text};
 use ae_ports::{Failed, Sink};
 use flow_graph::{Edge, Graph, Kind};
+use flow_tree::{Forest, certificate, edges_in};
+use std::alloc::{AllocError, Global};
 
 /// The front of an edge's line, before its weight.
 fn front_of_edge(number: usize, edge: &Edge) -> Text
@@ -45,30 +51,45 @@ fn write_to_weight<K: Sink>(
     lines.write(text_of_weight(weight).bytes())
 }
 
-/// Writes the line of an edge.
+/// Writes the line of an edge, where this is its certificate.
 fn write_edge<K: Sink>(
     number: usize,
     weight: u32,
+    is_witness: bool,
+    path: &[u32],
     edge: &Edge,
     lines: &mut LineWriter<'_, K>,
 ) -> Result<(), Failed>
-    ensures { Puts K.told K.faults K.same_rest lines.old lines.new (edge_line (nothing_more number) number weight edge.now) result }
+    ensures { Puts K.told K.faults K.same_rest lines.old lines.new (edge_line is_witness path.now number weight edge.now) result }
 {
     write_to_weight(number, weight, edge, lines)?;
+    write_mark(is_witness, edge.to, path, lines)?;
     lines.write(b"\n")
 }
 
-/// Writes the lines of the edges, which have these weights.
+/// Writes the lines of the edges, which have these weights. The certificates are made one by one.
 pub fn write_edges<K: Sink>(
+    alloc: Global,
     graph: &Graph,
     weights: &[u32],
+    forest: &Forest,
     lines: &mut LineWriter<'_, K>,
-) -> Result<(), Failed>
-    requires { length weights.now ≡ length (edges_of graph.now) }
-    ensures { Puts K.told K.faults K.same_rest lines.old lines.new (edge_lines nothing_more graph.now weights.now) result }
+) -> Result<(), PrintFault>
+    requires weights { length weights.now ≡ length (edges_of graph.now) }
+    requires grown { AreGrown (edges_of graph.now) forest.now.witness }
+    ensures { (path_of : ℕ → List ℕ) → AreCertificates (edges_of graph.now) forest.now.witness path_of →
+        PutsShort K.told K.faults K.same_rest lines.old lines.new (edge_lines graph.now weights.now forest.now.witness path_of) result }
 {
-    for (number, edge) in graph.edges().iter().enumerate() {
-        write_edge(number, weights[number], edge, lines)?;
+    let witness = forest.witness.as_slice();
+    for (number, edge) in edges_in(graph).iter().enumerate() {
+        let path = match certificate(alloc, graph, forest, number as u32) {
+            Ok(path) => path,
+            Err(AllocError) => return Err(PrintFault::NoMemory),
+        };
+        match write_edge(number, weights[number], witness[number], &path, edge, lines) {
+            Ok(()) => {}
+            Err(Failed) => return Err(PrintFault::Failed),
+        }
     }
     Ok(())
 }

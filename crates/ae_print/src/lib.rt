@@ -1,5 +1,5 @@
-//! The texts that `print` gives, a module for each: so far that of an ELF file's tables, the listing of an image's code, and the text
-//! of its flow graph.
+//! The texts that `print` gives, a module for each: so far that of an ELF file's tables, the listing of an image's code, and the texts
+//! of its flow graph, of what its words need, and of the slices of its loads and stores.
 //!
 //! Each is written line by line to a sink. After a fault the sink has a front of the text.
 #![tactic(auto)]
@@ -8,10 +8,17 @@ mod block_lines;
 mod code;
 mod edge_lines;
 mod elf;
+mod fault;
 mod graph;
+mod mark;
+mod needs;
 mod pieces;
 mod routine_lines;
+mod slices;
 
 pub use code::print_code;
 pub use elf::print_elf;
-pub use graph::{PrintFault, print_graph};
+pub use fault::PrintFault;
+pub use graph::print_graph;
+pub use needs::print_needs;
+pub use slices::print_slices;

@@ -1,7 +1,6 @@
 use Rattle.std.proofs.Common.{◌≡◌, ℕ, ◌+◌, List, get_or, slice_index_or, Ok, refl, sym, ap, ◌∙◌, arith}
 use Rattle.std.proofs.lemmas.Option.{unwrap_or-slice_get}
 use Rattle.flow_graph.specs.declared.block.Block.{Block}
-use Rattle.flow_graph.specs.Blocks.{blocks_of}
 use Rattle.flow_graph.specs.CodeParts.{CodeParts}
 use Rattle.flow_tree.specs.Depth.{depth_of, depths_of}
 use Rattle.ae_print.specs.GraphText.{block_line}

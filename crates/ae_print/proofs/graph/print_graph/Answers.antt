@@ -1,14 +1,20 @@
-use Rattle.std.proofs.Common.{ℕ, List, subst}
-use Rattle.ae_ports.specs.Content.{Appends, AppendsFront}
-use Rattle.ae_print.specs.GraphText.{graph_text, nothing_more}
+use Rattle.ae_print.proofs.GraphTexts.{by_weights, some_all, some_front, no_front}
 use Rattle.ae_print.proofs.graph.print_graph.Goals as goal
 
-pub returns-in-Ok-append_graph-clause-all : goal.returns-in-Ok-append_graph-clause-all
-returns-in-Ok-append_graph-clause-all g c =
-    subst (λ (weights : List ℕ). Appends (g.K.Sink.told c.args.sink.now) (g.K.Sink.told c.append_graph.new.sink) (graph_text nothing_more c.args.graph.now weights))
-    c.as_slice.ensures c.in-Ok-append_graph.ensures.all
+pub append_graph-requires-clause-grown : goal.append_graph-requires-clause-grown
+append_graph-requires-clause-grown g c = by_weights c.args.graph.now c.args.weights.now c.args.forest.now.witness c.requires.weights c.requires.witnesses
+
+pub returns-clause-all : goal.returns-clause-all
+returns-clause-all g c =
+    let grown = by_weights c.args.graph.now c.args.weights.now c.args.forest.now.witness c.requires.weights c.requires.witnesses in
+    some_all c.args.graph.now c.args.weights.now c.args.forest.now.witness grown _ _ c.as_slice.result.now c.append_graph.result c.as_slice.ensures c.append_graph.ensures.all
 
 pub returns-clause-front : goal.returns-clause-front
 returns-clause-front g c =
-    subst (λ (weights : List ℕ). AppendsFront (g.K.Sink.told c.args.sink.now) (g.K.Sink.told c.append_graph.new.sink) (graph_text nothing_more c.args.graph.now weights))
-    c.as_slice.ensures c.in-Err-append_graph.ensures.front
+    let grown = by_weights c.args.graph.now c.args.weights.now c.args.forest.now.witness c.requires.weights c.requires.witnesses in
+    some_front c.args.graph.now c.args.weights.now c.args.forest.now.witness grown _ _ c.as_slice.result.now c.append_graph.result c.as_slice.ensures c.append_graph.ensures.front
+
+pub returns-in-Err-clause-front : goal.returns-in-Err-clause-front
+returns-in-Err-clause-front g c =
+    let grown = by_weights c.args.graph.now c.args.weights.now c.args.forest.now.witness c.requires.weights c.requires.witnesses in
+    no_front c.args.graph.now c.args.weights.now c.args.forest.now.witness grown _

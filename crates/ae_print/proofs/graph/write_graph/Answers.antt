@@ -1,24 +1,19 @@
 use Rattle.std.proofs.Common.{◌++◌, refl}
-use Rattle.ae_print.specs.GraphText.{routine_lines, block_lines, edge_lines, nothing_more}
-use Rattle.ae_nums.proofs.LawsOfWriters.{Puts-both, Puts-front, Puts-more}
+use Rattle.ae_print.specs.GraphText.{routine_lines, block_lines, edge_lines}
+use Rattle.ae_nums.proofs.LawsOfWriters.{Puts-front}
+use Rattle.ae_print.proofs.Short.{short_behind}
 use Rattle.ae_print.proofs.graph.write_graph.Goals as goal
 
-pub returns-in_err-write_routines : goal.returns-in_err-write_routines
-returns-in_err-write_routines g c =
+pub returns-in-Ok : goal.returns-in-Ok
+returns-in-Ok g c = λ path_of are.
     let graph = c.args.graph.now in
-    let broken = c.in_err-write_routines.ensures.broken in
-    let front = Puts-front _ _ (routine_lines graph.routines) (block_lines graph) _ _ c.from_residual.result broken c.write_routines.ensures refl in
-    Puts-more _ _ _ (edge_lines nothing_more graph c.args.weights.now) _ broken front
+    let edges = edge_lines graph c.args.weights.now c.args.forest.now.witness path_of in
+    short_behind g.K.Sink.told g.K.Sink.faults g.K.Sink.same_rest g.met.K.Sink.rest_joins _ _ _ (routine_lines graph.routines ++ block_lines graph) edges _ c.in-Ok.ensures (c.write_edges.ensures path_of are)
 
-pub returns-in_err-write_blocks : goal.returns-in_err-write_blocks
-returns-in_err-write_blocks g c =
+pub returns-in-Err : goal.returns-in-Err
+returns-in-Err g c = λ path_of are.
     let graph = c.args.graph.now in
-    let both = Puts-both g.met.K.Sink.rest_joins _ _ _ (routine_lines graph.routines) (block_lines graph) _ _ _ _ c.write_routines.ensures refl c.write_blocks.ensures refl in
-    Puts-front _ _ (routine_lines graph.routines ++ block_lines graph) (edge_lines nothing_more graph c.args.weights.now) _ _ _ c.in_err-write_blocks.ensures.broken both refl
-
-pub returns : goal.returns
-returns g c =
-    let graph = c.args.graph.now in
-    let both = Puts-both g.met.K.Sink.rest_joins _ _ _ (routine_lines graph.routines) (block_lines graph) _ _ _ _ c.write_routines.ensures refl c.write_blocks.ensures refl in
-    Puts-both g.met.K.Sink.rest_joins _ _ _ (routine_lines graph.routines ++ block_lines graph) (edge_lines nothing_more graph c.args.weights.now) _ _ _ _
-    both refl c.write_edges.ensures refl
+    let edges = edge_lines graph c.args.weights.now c.args.forest.now.witness path_of in (
+      c.in-Err.ensures.broken,
+      λ result. Puts-front _ _ (routine_lines graph.routines ++ block_lines graph) edges _ _ result c.in-Err.ensures.broken c.in-Err.ensures refl,
+    )

@@ -1,4 +1,4 @@
-use Rattle.std.proofs.Common.{◌+◌, get_or, Ok, refl, ap, ◌∙◌}
+use Rattle.std.proofs.Common.{◌+◌, get_or, Ok, refl, ◌∙◌}
 use Rattle.ae_print.specs.GraphText.{shown_byte}
 use Rattle.ae_nums.proofs.LawsOfWriters.{Puts-none, Puts-both, Puts-front, Puts-same}
 use Rattle.ae_print.proofs.Joined.{texts_before, texts_behind, one_more_text, all_texts, texts_split}

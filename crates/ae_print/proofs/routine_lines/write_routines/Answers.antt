@@ -1,9 +1,9 @@
-use Rattle.std.proofs.Common.{◌≡◌, ◌+◌, get_or, Some, Ok, refl, sym, ap, ◌∙◌, arith}
+use Rattle.std.proofs.Common.{◌≡◌, ◌+◌, get_or, Ok, refl, ap, arith}
 use Rattle.std.proofs.lemmas.Option.{slice_get-get_or}
 use Rattle.rv_code.specs.declared.image.Name.{Name}
 use Rattle.ae_print.specs.GraphText.{routine_line}
 use Rattle.ae_nums.proofs.LawsOfWriters.{Puts-none, Puts-both, Puts-front, Puts-same}
-use Rattle.ae_print.proofs.Joined.{texts_before, texts_behind, one_more_text, all_texts, texts_split}
+use Rattle.ae_print.proofs.Joined.{texts_before, texts_behind, one_more_text, texts_split}
 use Rattle.ae_print.proofs.routine_lines.write_routines.Goals as goal
 
 pub returns-in_err-write_routine : goal.returns-in_err-write_routine

@@ -1,0 +1,3 @@
+-- What inner functions promise to one another: nobody has to believe these.
+pub mod Short
+pub mod SomePut
