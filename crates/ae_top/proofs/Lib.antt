@@ -7,5 +7,6 @@ pub mod KeptTop
 pub mod Named
 pub mod Printed
 pub mod Ran
+pub mod Shown
 pub mod TooLong
 pub mod Traced

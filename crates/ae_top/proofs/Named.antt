@@ -90,7 +90,7 @@ profile_of_named count (schema ∷ events ∷ more ∷ rest) = tt
 
 kind_of_named : (count : ℕ) (kind : List ℕ) → 2 < count → Names count (print_kind_command kind)
 kind_of_named count kind h =
-    either count (bytes_eq kind (codes "elf")) _ _ h (either count (bytes_eq kind (codes "code")) _ _ h (either count (bytes_eq kind (codes "graph")) _ _ h (either count (bytes_eq kind (codes "needs")) _ _ tt (either count (bytes_eq kind (codes "slice")) _ _ tt (either count (bytes_eq kind (codes "schema")) _ _ tt (tt))))))
+    either count (bytes_eq kind (codes "elf")) _ _ h (either count (bytes_eq kind (codes "code")) _ _ h (either count (bytes_eq kind (codes "graph")) _ _ h (either count (bytes_eq kind (codes "needs")) _ _ h (either count (bytes_eq kind (codes "slice")) _ _ h (either count (bytes_eq kind (codes "schema")) _ _ tt (tt))))))
 
 print_of_named : (count : ℕ) (words : List (List ℕ)) → length words < count → Names count (print_command words)
 print_of_named count [] h = tt

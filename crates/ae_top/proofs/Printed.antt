@@ -11,20 +11,25 @@ use Rattle.ae_top.specs.declared.no_file.NotTaken.{NotTaken}
 use Rattle.ae_top.specs.declared.refusal.Refusal.{Refusal}
 use Rattle.ae_top.specs.declared.refusal.Refusal.TheVariants.{Image}
 use Rattle.ae_top.specs.declared.task.PrintKind.{PrintKind}
-use Rattle.ae_top.specs.declared.task.PrintKind.TheVariants.{Elf, Code, Graph}
+use Rattle.ae_top.specs.declared.task.PrintKind.TheVariants.{Elf, Code, Graph, Needs, Slice}
 use Rattle.ae_top.specs.NoFile.{IsNotTaken, Lacks}
 use Rattle.ae_top.specs.Printing.{asks_of}
-use Rattle.ae_top.specs.Refusing.{tables_refusal, refusal_of}
+use Rattle.ae_top.specs.Refusing.{tables_refusal, refusal_of, traced_refusal}
 use Rattle.ae_top.specs.World.{Port, port, streams}
 
 asked_of_all : (bytes : List ℕ) (refusal : Refusal) → tables_refusal bytes ≡ Some refusal → refusal_of bytes ≡ Some refusal
 asked_of_all bytes refusal is = ap (λ first. option_or first (option_map Image (image_refusal bytes))) is
 
+asked_of_traced : (bytes : List ℕ) (refusal : Refusal) → tables_refusal bytes ≡ Some refusal → traced_refusal bytes ≡ Some refusal
+asked_of_traced bytes refusal is = ap (λ first. option_or first (if is_some (note_in bytes) then Some (Image Traced) else None)) (asked_of_all bytes refusal is)
+
 -- what refuses the tables comes first of all that is asked
 asked_first : (kind : PrintKind) (bytes : List ℕ) (refusal : Refusal) → tables_refusal bytes ≡ Some refusal → asks_of kind bytes ≡ Some refusal
 asked_first Elf bytes refusal is = is
 asked_first Code bytes refusal is = asked_of_all bytes refusal is
-asked_first Graph bytes refusal is = ap (λ first. option_or first (if is_some (note_in bytes) then Some (Image Traced) else None)) (asked_of_all bytes refusal is)
+asked_first Graph bytes refusal is = asked_of_traced bytes refusal is
+asked_first Needs bytes refusal is = asked_of_traced bytes refusal is
+asked_first Slice bytes refusal is = asked_of_traced bytes refusal is
 
 not_taken_first : (kind : PrintKind) (bytes : List ℕ) (why : NotTaken) → IsNotTaken tables_refusal why bytes → IsNotTaken (asks_of kind) why bytes
 not_taken_first kind bytes (NotTaken.Refused refusal) is = asked_first kind bytes refusal is

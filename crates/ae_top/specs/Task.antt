@@ -1,11 +1,12 @@
 -- The commands that are carried out today: `run PROG` and `plain PROG TRACE`, each with the option of its fuel, and
--- `print elf FILE`, `print code FILE` and `print graph FILE`. All other words are answered as if they spelled no command.
+-- `print elf FILE`, `print code FILE`, `print graph FILE`, `print needs FILE` and `print slice FILE`. All other words are answered as if they
+-- spelled no command.
 use Rattle.std.specs.Prelude.{ℕ, List, Option, None, Some}
 use Rattle.std.specs.Option.{option_and_then}
 use Rattle.ae_words.specs.declared.command.Command.{Command}
 use Rattle.ae_words.specs.declared.command.Command.TheVariants.{Run, Plain, Rewrite, Regenerate, Profile, PrintElf, PrintCode, PrintGraph, PrintNeeds, PrintSlice, PrintSchema, PrintEvents, Sample, Help}
 use Rattle.ae_words.specs.Command.{command_of}
-use Rattle.ae_top.specs.declared.task.PrintKind.TheVariants.{Elf, Code, Graph}
+use Rattle.ae_top.specs.declared.task.PrintKind.TheVariants.{Elf, Code, Graph, Needs, Slice}
 use Rattle.ae_top.specs.declared.task.Task.{Task}
 use Rattle.ae_top.specs.declared.task.TheConstants.{DEFAULT_FUEL}
 
@@ -26,8 +27,8 @@ task_of (Profile schema events) = None
 task_of (PrintElf file) = Some (Task.Print Elf file)
 task_of (PrintCode file) = Some (Task.Print Code file)
 task_of (PrintGraph file) = Some (Task.Print Graph file)
-task_of (PrintNeeds file) = None
-task_of (PrintSlice file) = None
+task_of (PrintNeeds file) = Some (Task.Print Needs file)
+task_of (PrintSlice file) = Some (Task.Print Slice file)
 task_of (PrintSchema file) = None
 task_of (PrintEvents schema events) = None
 task_of (Sample number new schema events) = None

@@ -16,6 +16,10 @@ pub enum PrintKind {
     Code,
     /// Its flow graph.
     Graph,
+    /// What its code words need.
+    Needs,
+    /// The slices of its loads and stores.
+    Slice,
 }
 
 /// What is asked for: a command that is carried out today, with the places of its file words among all words and the
@@ -72,12 +76,18 @@ fn task_of(command: Command) -> Option<Task>
             kind: PrintKind::Graph,
             file,
         }),
+        Command::PrintNeeds { file } => Some(Task::Print {
+            kind: PrintKind::Needs,
+            file,
+        }),
+        Command::PrintSlice { file } => Some(Task::Print {
+            kind: PrintKind::Slice,
+            file,
+        }),
         Command::Run { .. }
         | Command::Rewrite { .. }
         | Command::Regenerate { .. }
         | Command::Profile { .. }
-        | Command::PrintNeeds { .. }
-        | Command::PrintSlice { .. }
         | Command::PrintSchema { .. }
         | Command::PrintEvents { .. }
         | Command::Sample { .. }

@@ -13,7 +13,7 @@ use std::alloc::Global;
 
 /// Carries out the command that the words spell, over the files of the store, the input and the two outputs, and answers
 /// with what came of it. The words are those after the program's name. Today `run PROG` and `plain PROG TRACE` are carried
-/// out, each with `--fuel N` or without, and `print elf FILE`, `print code FILE` and `print graph FILE`; all other words are answered with
+/// out, each with `--fuel N` or without, and `print elf FILE`, `print code FILE`, `print graph FILE`, `print needs FILE` and `print slice FILE`; all other words are answered with
 /// `Usage`.
 ///
 /// Every call returns. The refusals come in this order: the words, a file that isn't there, one that is too long, a fault

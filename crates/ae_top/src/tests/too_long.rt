@@ -54,6 +54,8 @@ fn reads_no_file_that_is_too_long(rt: HostRuntime) -> Result<(), Fail> {
         "print elf P",
         "print code P",
         "print graph P",
+        "print needs P",
+        "print slice P",
     ];
     for (row, line) in lines.iter().enumerate() {
         for size in [268_435_457, u64::MAX] {
