@@ -2,9 +2,11 @@
 use crate::code::code_answer;
 use crate::commands::command_answer;
 use crate::devices::device_answer;
+use crate::graph::graph_answer;
 use crate::image::{image_answer, image_of};
 use crate::lent::lent_answer;
 use crate::memory::memory_answer;
+use crate::needs::{mask_answer, slice_answer};
 use crate::numbers::number_answer;
 use crate::telling::split;
 use crate::writing::writer_answer;
@@ -55,6 +57,9 @@ impl Asked {
     fn answer_of_file(&mut self, alloc: Global, what: &str, rest: &str) -> io::Result<Vec<u8>> {
         match (&self.image, &mut self.memory) {
             (Some(image), _) if what == "image" => image_answer(alloc, image, rest),
+            (Some(image), _) if what == "graph" => graph_answer(alloc, image, rest),
+            (Some(image), _) if what == "mask" => mask_answer(alloc, image, rest),
+            (Some(image), _) if what == "slice" => slice_answer(alloc, image, rest),
             (_, Some(memory)) if what == "memory" => memory_answer(alloc, memory, rest),
             _ => Err(not_understood()),
         }

@@ -1,0 +1,3 @@
+mod Fours
+mod HeldWords
+mod MixedImage

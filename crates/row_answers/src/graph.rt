@@ -1,0 +1,132 @@
+//! The flow graph of an executable: blocks, depths, weights, witness edges and their certificates.
+use crate::telling::{add, bytes, decimal_or_nothing, split, words};
+use flow_graph::Graph;
+use flow_tree::{Forest, Weights, WorkRow, certificate, check_forest, depth, witnesses};
+use row_form::not_understood;
+use rv_code::Image;
+use std::alloc::{AllocError, Global};
+use std::io;
+
+/// The answer to a question of the flow graph of an image.
+pub fn graph_answer(alloc: Global, image: &Image, question: &str) -> io::Result<Vec<u8>> {
+    let graph = Graph::build(alloc, image)?;
+    let (key, rest) = split(question);
+    let numbers = words(alloc, rest)?;
+    match key {
+        "block" => blocks_at(alloc, &graph, &numbers),
+        "depth" => depths_of(alloc, &graph, &numbers),
+        "weight" => weights_of(alloc, &graph, &numbers),
+        "witnesses" => marks_by(alloc, &graph, numbers),
+        "forest" => is_forest(alloc, &graph, &numbers),
+        "certificate" => path_of(alloc, &graph, &numbers),
+        _ => Err(not_understood()),
+    }
+}
+
+/// The numbers of the blocks that hold these addresses.
+fn blocks_at(alloc: Global, graph: &Graph, addresses: &[u32]) -> io::Result<Vec<u8>> {
+    let mut answers = Vec::new(alloc);
+    for address in addresses {
+        let block = graph.block_at(*address).map(u64::from);
+        add(&mut answers, &decimal_or_nothing(alloc, block)?)?;
+    }
+    Ok(answers)
+}
+
+/// The depths of the blocks with these numbers.
+fn depths_of(alloc: Global, graph: &Graph, blocks: &[u32]) -> io::Result<Vec<u8>> {
+    let mut answers = Vec::new(alloc);
+    for block in blocks {
+        let is_there = (*block as usize) < graph.blocks().len();
+        let depth = if is_there {
+            Some(u64::from(depth(graph, *block)))
+        } else {
+            None
+        };
+        add(&mut answers, &decimal_or_nothing(alloc, depth)?)?;
+    }
+    Ok(answers)
+}
+
+/// The weights by depth of the edges with these numbers.
+fn weights_of(alloc: Global, graph: &Graph, edges: &[u32]) -> io::Result<Vec<u8>> {
+    let weights = Weights::by_depth(alloc, graph)?;
+    let mut answers = Vec::new(alloc);
+    for edge in edges {
+        let weight = weights.at(*edge).map(u64::from);
+        add(&mut answers, &decimal_or_nothing(alloc, weight)?)?;
+    }
+    Ok(answers)
+}
+
+/// Numbers in decimal, between blanks; `none` where there are none.
+fn list_text(alloc: Global, numbers: &[u32]) -> io::Result<Vec<u8>> {
+    if numbers.is_empty() {
+        return bytes(alloc, "none");
+    }
+    let mut answer = Vec::new(alloc);
+    for number in numbers {
+        add(&mut answer, format!(in alloc; "{number}")?.as_bytes())?;
+    }
+    Ok(answer)
+}
+
+/// The numbers of the edges that are witnesses under this table of weights; of a table that doesn't fit, the table that comes back.
+fn marks_by(alloc: Global, graph: &Graph, table: Vec<u32>) -> io::Result<Vec<u8>> {
+    match Weights::given(graph, table) {
+        Ok(weights) => {
+            let forest = witnesses(alloc, graph, &weights)?;
+            list_text(alloc, &marked(alloc, &forest)?)
+        }
+        Err(back) => {
+            let mut answer = bytes(alloc, "back")?;
+            add(&mut answer, &list_text(alloc, &back)?)?;
+            Ok(answer)
+        }
+    }
+}
+
+/// The numbers of the marked edges.
+fn marked(alloc: Global, forest: &Forest) -> Result<Vec<u32>, AllocError> {
+    let mut numbers = Vec::new(alloc);
+    let mut number: u32 = 0;
+    for mark in forest.witness.as_slice() {
+        if *mark {
+            numbers.push(number)?;
+        }
+        number = number.saturating_add(1);
+    }
+    Ok(numbers)
+}
+
+/// Whether these marks, one an edge, 1 or 0, are those of edges off a forest.
+fn is_forest(alloc: Global, graph: &Graph, digits: &[u32]) -> io::Result<Vec<u8>> {
+    let mut marks = Vec::new(alloc);
+    for digit in digits {
+        marks.push(*digit == 1)?;
+    }
+    let Ok(blocks) = u32::try_from(graph.blocks().len()) else {
+        return Err(not_understood());
+    };
+    if marks.len() != graph.edges().len() {
+        return Err(not_understood());
+    }
+    let mut row = WorkRow::new(alloc, blocks)?;
+    let is = check_forest(graph, &marks, &mut row);
+    bytes(alloc, if is { "yes" } else { "no" })
+}
+
+/// The certificate of an edge, whose number comes first, under a table of weights.
+fn path_of(alloc: Global, graph: &Graph, numbers: &[u32]) -> io::Result<Vec<u8>> {
+    let [edge, table @ ..] = numbers else {
+        return Err(not_understood());
+    };
+    let Ok(weights) = Weights::given(graph, table.to_vec(alloc)?) else {
+        return Err(not_understood());
+    };
+    if *edge as usize >= graph.edges().len() {
+        return Err(not_understood());
+    }
+    let forest = witnesses(alloc, graph, &weights)?;
+    list_text(alloc, &certificate(alloc, graph, &forest, *edge)?)
+}
