@@ -5,4 +5,5 @@ pub mod Taken
 pub mod Writer
 pub mod Spans
 pub mod Registers
+pub mod EventHeader
 pub mod scaffolding

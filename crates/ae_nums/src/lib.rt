@@ -2,6 +2,7 @@
 #![tactic(auto)]
 
 mod digits;
+mod header;
 mod hex;
 mod item;
 mod laws;
@@ -15,6 +16,7 @@ mod words;
 mod writer;
 
 pub use digits::{decimal, read_decimal};
+pub use header::event_header;
 pub use hex::hex8;
 pub use item::Item;
 pub use laws::masks_have_their_registers;

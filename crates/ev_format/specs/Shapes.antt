@@ -2,6 +2,7 @@
 use Rattle.std.specs.Prelude.{◌≡◌, ℕ, ◌%◌, Bool, true, false, ◌==◌, ◌||◌, ⊤, List, ◌∷◌, ◌++◌, length, Option, IfSome}
 use Rattle.std.specs.List.{AllByRecursion}
 use Rattle.std.specs.Option.{option_map_or}
+use Rattle.ae_nums.specs.EventHeader.{event_header}
 use Rattle.ae_nums.specs.Registers.{registers_of}
 use Rattle.rv_code.specs.Numbers.{IsWord, bytes_of}
 use Rattle.ev_format.specs.declared.kind.RecordKind.{RecordKind}
@@ -25,9 +26,9 @@ pub record IsShape (shape : ShapeView) : Type 0 where
   pub apart : (address : ℕ) → (shape.slot address).value ≡ true → (shape.slot address).landing ≡ false
   pub clear : (target : ℕ) → IfSome (shape.needs target) (λ mask. mask % 2 ≡ 0)
 
--- the header of 16 bytes: `AEV1`, and what the program is known by
+-- the header, by what the program is known by
 abbrev pub shape_header : ShapeView → List ℕ
-shape_header shape = 0x41 ∷ 0x45 ∷ 0x56 ∷ 0x31 ∷ bytes_of 4 shape.entry ++ bytes_of 4 shape.first ++ bytes_of 4 shape.count
+shape_header shape = event_header shape.entry shape.first shape.count
 
 -- An address of this slot may have a record of this kind. A run may also end at address 0, where no word was carried out.
 abbrev pub takes_kind : Slot → ℕ → RecordKind → Bool

@@ -7,8 +7,8 @@ ghost use Rattle.ev_format.specs.Reading.{HeaderStops};
 ghost use Rattle.ev_format.specs.Shapes.{shape_header};
 
 use crate::fill::fill;
-use crate::piece::Piece;
 use crate::{Halt, Shape, Stop};
+use ae_nums::event_header;
 use ae_ports::Source;
 
 /// How many bytes a header has.
@@ -23,20 +23,15 @@ pub fn read_header<S: Source, H: Shape>(shape: &H, source: &mut S) -> Result<(),
 {
     let mut bytes = [0; 16];
     fill(source, &mut bytes)?;
-    if bytes.as_slice() != header_of(shape).bytes() {
+    if bytes != header_of(shape) {
         return Err(Halt::Stopped(Stop::OtherProgram));
     }
     Ok(())
 }
 
 // the header of a shape's event files
-fn header_of<H: Shape>(shape: &H) -> Piece
+fn header_of<H: Shape>(shape: &H) -> [u8; 16]
     ensures { result ≡ shape_header (H.shown shape.now) }
 {
-    let mut piece = Piece::new();
-    piece.push(b"AEV1");
-    piece.push_word(shape.entry());
-    piece.push_word(shape.first());
-    piece.push_word(shape.count());
-    piece
+    event_header(shape.entry(), shape.first(), shape.count())
 }

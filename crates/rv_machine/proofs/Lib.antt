@@ -8,6 +8,7 @@ mod Acts
 mod TracerBytes
 mod Sent
 mod Received
+mod Recorded
 mod Called
 mod Advanced
 mod Gone

@@ -1,5 +1,5 @@
 -- What a machine holds, and what it and the outside have to do with the state of a run.
-use Rattle.std.specs.Prelude.{ℕ, List, [], Option, None, Result, is_some}
+use Rattle.std.specs.Prelude.{ℕ, List, [], Option, None, Some, Result, Ok, Err, is_some}
 use Rattle.rv_code.specs.declared.ending.Ending.{Ending}
 use Rattle.rv_code.specs.declared.image.Image.{Image}
 use Rattle.rv_code.specs.declared.image.Note.{Note}
@@ -51,6 +51,12 @@ state_of held outside =
       err = outside.err;
       events = outside.events;
     }
+
+-- the ending that a machine has come to
+abbrev pub ending_by : Option (Result Ending MachineFault) → Option Ending
+ending_by None = None
+ending_by (Some (Ok ending)) = Some ending
+ending_by (Some (Err fault)) = None
 
 -- a machine that has taken no step yet
 abbrev pub loaded_of : Image → Held

@@ -1,15 +1,17 @@
 -- What the calls of a machine promise, each part by its name.
-use Rattle.std.specs.Prelude.{◌≡◌, ℕ, List, None, Some, Result, Ok, IfOk}
+use Rattle.std.specs.Prelude.{◌≡◌, ◌≢◌, ℕ, List, Option, None, Some, Result, Ok, Err, IfOk}
 use Rattle.ae_nums.specs.declared.item.Item.{Item}
+use Rattle.ae_ports.specs.Content.{Appends, AppendsFront}
 use Rattle.rv_code.specs.declared.ending.Ending.{Ending}
 use Rattle.rv_memory.specs.Outline.{outline}
 use Rattle.rv_machine.specs.declared.outcome.MachineFault.{MachineFault}
+use Rattle.rv_machine.specs.declared.outcome.MachineFault.TheVariants.{EventFault}
 use Rattle.rv_machine.specs.declared.outcome.Outcome.{Outcome}
 use Rattle.rv_machine.specs.declared.outcome.Outcome.TheVariants.{Spent}
 use Rattle.rv_machine.specs.declared.seen.Step.{Step}
 use Rattle.rv_machine.specs.Held.{Held, Outside, program_in, state_of}
 use Rattle.rv_machine.specs.Outcomes.{Steps, Runs, seen_in, seen_of, step_again, run_again, kept_by_step, kept_by_run}
-use Rattle.rv_machine.specs.Ports.{Told, Counts, HasCauses, Passes}
+use Rattle.rv_machine.specs.Ports.{Told, Counts, Rises, HasCauses, Passes}
 
 -- a fact about each of the four objects that a call is given
 pub record ForEach (one two three four : Type 0) : Type 0 where
@@ -40,6 +42,34 @@ pub record AnswersStep (before : Held) (told : Told) (faults : Counts) (result :
   pub program : program_in now ≡ program_in before
   pub note : now.note ≡ before.note
   pub outline : outline now.memory.stretches ≡ outline before.memory.stretches
+  pub rests : stands
+
+-- no device has failed under the machine
+abbrev pub HasNotFailed : Held → Type 0
+HasNotFailed held = (fault : MachineFault) → held.kept ≢ Some (Err fault)
+
+-- these bytes went to the sink of events, or a front of them
+abbrev pub GivesEvents : (bytes : List ℕ) → Result Unit MachineFault → (told told_now : Option (List ℕ)) → Type 0
+GivesEvents bytes (Ok done) told told_now = Appends told told_now bytes
+GivesEvents bytes (Err fault) told told_now = (fault ≡ EventFault) × AppendsFront told told_now bytes
+
+-- only where the sink's count of faults rose there is a fault
+abbrev pub IsSinksFault : Result Unit MachineFault → (faults faults_now : ℕ) → Type 0
+IsSinksFault (Ok done) faults faults_now = faults_now ≡ faults
+IsSinksFault (Err fault) faults faults_now = Rises faults faults_now
+
+-- a machine keeps a fault, and all else is as before
+abbrev pub keeping : Held → Result Unit MachineFault → Held
+keeping held (Ok done) = held
+keeping held (Err fault) = record held { kept = Some (Err fault) }
+
+-- What `head` and `tail` answer and leave, which give these bytes to the sink of events.
+pub record AnswersGiving (bytes : List ℕ) (before : Held) (told : Option (List ℕ)) (faults : ℕ) (result : Result Unit MachineFault) (now : Held) (told_now : Option (List ℕ)) (faults_now : ℕ) (same stands : Type 0) : Type 0 where
+  pub gives : HasNotFailed before → GivesEvents bytes result told told_now
+  pub cause : HasNotFailed before → IsSinksFault result faults faults_now
+  pub keeps : HasNotFailed before → now ≡ keeping before result
+  -- after a fault
+  pub again : (fault : MachineFault) → before.kept ≡ Some (Err fault) → IsIdle (result ≡ Err fault) (now ≡ before) same
   pub rests : stands
 
 -- What `run` and `trace` answer and leave, whose taker took some items.

@@ -13,6 +13,7 @@ mod loaded;
 mod loading;
 mod machine;
 mod outcome;
+mod recording;
 mod seen;
 mod table;
 mod taking;

@@ -31,6 +31,7 @@ use std::marker::Model;
 
 mod acting;
 mod calling;
+mod recording;
 
 /// A machine that runs one image, step by step.
 #[derive(Debug, Drop)]

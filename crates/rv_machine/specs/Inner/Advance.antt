@@ -20,6 +20,7 @@ use Rattle.rv_machine.specs.declared.acted.Acted.{Acted}
 use Rattle.rv_machine.specs.declared.acted.Alone.{Alone}
 use Rattle.rv_machine.specs.declared.acted.Gone.{Gone}
 use Rattle.rv_machine.specs.declared.outcome.MachineFault.{MachineFault}
+use Rattle.rv_machine.specs.declared.outcome.MachineFault.TheVariants.{EventFault}
 use Rattle.rv_machine.specs.declared.seen.Step.{Step}
 use Rattle.rv_machine.specs.State.{State, register_of, with_register}
 use Rattle.rv_machine.specs.Effect.{Effect, load_at, load_size, store_at, store_size}
@@ -235,3 +236,10 @@ pub record Receives (told told_now : Option (List ℕ)) (before now : List Cell)
   pub taken : Consumes told told_now bytes
   pub put : now ≡ written before (span address count) bytes
   pub end : got < count → IsAtEnd told_now
+
+-- what came of giving bytes to the sink of events: nothing changed, or its fault is kept
+abbrev pub MayKeep : (before : Held) → Result Unit Failed → Result Unit MachineFault → (now : Held) → Type 0
+MayKeep before (Ok given) (Ok done) now = now ≡ before
+MayKeep before (Ok given) (Err fault) now = ⊥
+MayKeep before (Err failed) (Ok done) now = ⊥
+MayKeep before (Err failed) (Err fault) now = (fault ≡ EventFault) × (now ≡ record before { kept = Some (Err EventFault) })
