@@ -61,3 +61,16 @@ pub fn check_forest(graph: &Graph, witness: &[bool], row: &mut WorkRow) -> bool
     let blocks = graph.blocks().len();
     check(&mut row.cells[..blocks], edges_in(graph), witness)
 }
+
+/// Whether the marks, one an edge, cut all cycles of these edges, as [`check_forest`] says it of a graph's. The row is for more than the
+/// number of each block that they join. It takes no memory either.
+pub fn check_edges(edges: &[Edge], witness: &[bool], row: &mut WorkRow) -> bool
+    requires few { length edges.now ≤ 2 ^ 31 }
+    requires marks { length witness.now ≡ length edges.now }
+    requires fit { row.old ≤ 2 ^ 32 }
+    requires blocks { (edge one other : ℕ) → Joins edges.now edge one other → one < row.old }
+    ensures forest { IsTrue result ↔ CutsCycles edges.now witness.now }
+    ensures room { row.new ≡ row.old }
+{
+    check(&mut row.cells, edges, witness)
+}

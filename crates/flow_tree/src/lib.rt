@@ -22,7 +22,7 @@ mod weights;
 pub use all_depths::depths;
 pub use block_depth::depth;
 pub use certifying::certificate;
-pub use checking::{WorkRow, check_forest};
+pub use checking::{WorkRow, check_edges, check_forest};
 pub use edges::edges_in;
 pub use forest::{Forest, witnesses};
 pub use limit::DEPTH_LIMIT;
