@@ -110,6 +110,13 @@ module _ (table : List Ways) (forest : HasNoCycle ArcJoins (HasArc table)) (from
       let (walk, walks) = path_walk (over {mid = to} arc is (refl, refl) path) in
       none walk walks
 
+  -- but where there is no way, a walk leads there
+  pub finds_walk : (hop : Hop) → Finds table from goal hop → hop ≢ NoWay → (walk : List Arc) × IsWalk (HasArc table) from goal walk
+  finds_walk Here (at_goal equal) some = ([], empty_walk equal)
+  finds_walk Fall (by_fall apart to is path) some = path_walk (over {mid = to} (record { from = from; to = to; kind = 0 }) is (refl, refl) path)
+  finds_walk Taken (by_taken apart to is path) some = path_walk (over {mid = to} (record { from = from; to = to; kind = 1 }) is (refl, refl) path)
+  finds_walk NoWay (nowhere apart none) some = absurd (some refl)
+
   no_way_walk : (walk : List Arc) → NoWay ≡ first_hop walk → ⊥
   no_way_walk [] clash = cc clash
   no_way_walk (arc ∷ rest) clash = fall_or_taken (eqb arc.kind 0) clash

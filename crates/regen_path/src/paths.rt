@@ -1,10 +1,10 @@
 //! Paths in a forest, and which way to go first.
-ghost use Rattle.std.specs.Prelude.{◌≡◌, ◌<◌, ◌^◌, ◌↔◌, ℕ, IfOk, IsTrue, List, Option, Some, None, length, slice_get};
+ghost use Rattle.std.specs.Prelude.{◌≡◌, ◌≢◌, ◌<◌, ◌^◌, ◌↔◌, ℕ, IfOk, IsTrue, List, Option, Some, None, length, slice_get};
 ghost use Rattle.graph_paths.specs.Paths.{Path};
 ghost use Rattle.graph_paths.specs.Forests.{HasNoCycle, IsAmong};
 ghost use Rattle.regen_path.specs.declared.arcs.Arc.{Arc};
 ghost use Rattle.regen_path.specs.declared.paths.Hop.TheVariants.{Here, NoWay};
-ghost use Rattle.regen_path.specs.Arcs.{HasArc, AreWays};
+ghost use Rattle.regen_path.specs.Arcs.{HasArc, AreWays, way_from};
 ghost use Rattle.regen_path.specs.Walks.{ArcJoins, ArcLeads, IsWalk, IsOnlyWalk};
 ghost use Rattle.regen_path.specs.Hops.{first_hop};
 ghost use Rattle.regen_path.specs.PathsView.{AreSpots, RisesAndSinks, ways_in};
@@ -168,8 +168,17 @@ impl Paths {
         requires goal { goal < length self.now }
         ensures here { result ≡ Here ↔ here ≡ goal }
         ensures no_way { result ≡ NoWay ↔ ((walk : List Arc) → IsWalk (HasArc self.now) here goal walk → ⊥) }
+        ensures walk { result ≢ NoWay → (walk : List Arc) × IsWalk (HasArc self.now) here goal walk }
         ensures first { (walk : List Arc) → IsWalk (HasArc self.now) here goal walk → IsOnlyWalk (HasArc self.now) here goal walk × (result ≡ first_hop walk) }
     {
         hop_in(self.spots.as_slice(), here, goal)
+    }
+
+    /// Where the arc of a kind out of a node leads, if there is one.
+    pub fn way(&self, here: u32, kind: u8) -> Option<u32>
+        requires here { here < length self.now }
+        ensures { result ≡ way_from self.now kind here }
+    {
+        self.spots.as_slice()[here as usize].ways.by(kind)
     }
 }
