@@ -1,0 +1,23 @@
+pub mod LawsOfWalks
+mod ArcsMade
+mod Bytes
+mod Counts
+mod Crossed
+mod Elsewhere
+mod Entry
+mod ForestArcs
+mod Gave
+mod GoneAndTold
+mod Hops
+mod OneWalk
+mod Onward
+mod Passing
+mod Reached
+mod Shortness
+mod ShortestWalk
+mod Steps
+mod Told
+mod Towards
+mod Traced
+mod Tellings
+mod WordsMet

@@ -1,0 +1,44 @@
+-- Going on without a record.
+use Rattle.std.specs.Prelude.{◌≡◌, ℕ, ◌≤◌, Bool, true, List, [], ◌∷◌, length, map, take, flat_map, Option, Some, ◌==◌}
+use Rattle.std.specs.Option.{option_to_list}
+use Rattle.ae_nums.specs.declared.item.Item.{Item}
+use Rattle.ae_nums.specs.declared.item.Item.TheVariants.{Fetch}
+use Rattle.regen_path.specs.declared.arcs.Arc.{Arc}
+use Rattle.schema_form.specs.SchemaParts.{SchemaParts}
+use Rattle.regen_walk.specs.declared.met.Met.{Met}
+use Rattle.regen_walk.specs.declared.met.Spot.{Spot}
+use Rattle.regen_walk.specs.declared.position.Position.TheVariants.{Before}
+use Rattle.regen_walk.specs.FreeArcs.{goes_quietly}
+use Rattle.regen_walk.specs.Inner.Met.{IsSpot}
+use Rattle.regen_walk.specs.Labels.{Quiet}
+use Rattle.regen_walk.specs.Moves.{goes_on, is_kept, move_by_class}
+use Rattle.regen_walk.specs.Walks.{walk_from}
+
+-- by each way that needs no record the word goes on so
+abbrev pub IsCarriedOut : (at : ℕ) → Met → (before : List ℕ) → (access : Option Item) → (now : List ℕ) → Type 0
+IsCarriedOut at met before access now =
+    (parts : SchemaParts) (taken : Bool) → goes_quietly (is_kept met.word) taken met.class ≡ true
+    → move_by_class parts at met.word before met.class (Quiet taken) ≡ Some (goes_on at access taken now)
+
+-- the items of a word
+abbrev pub items_at : (at : ℕ) → (access : Option Item) → List Item
+items_at at access = Fetch at ∷ option_to_list access
+
+-- over the edge of a way from the word at one spot, which needs no record, to that at another
+pub record PassesOver (parts : SchemaParts) (taken : Bool) (from to : Spot) (before now : List ℕ) (access : Option Item) : Type 0 where
+  pub moves : walk_from parts (Before from.address) before (Quiet taken ∷ Quiet taken ∷ [])
+      ≡ Some (record { items = items_at from.address access; position = Before to.address; registers = now })
+  pub spot : IsSpot parts to
+
+-- the ways of the moves along arcs: one for each word, and one for the edge behind it
+abbrev pub ways_along : List Arc → List Bool
+ways_along walk = flat_map (λ (arc : Arc). (arc.kind == 1) ∷ (arc.kind == 1) ∷ []) walk
+
+-- along these arcs, from before the word at one address to before that at another
+abbrev pub GoesAlong : SchemaParts → List Arc → (from to : ℕ) → (before now : List ℕ) → List Item → Type 0
+GoesAlong parts walk from to before now items =
+    walk_from parts (Before from) before (map Quiet (ways_along walk)) ≡ Some (record { items = items; position = Before to; registers = now })
+
+-- a taker took a front of these items
+abbrev pub TakesFront : (took : List Item → Type 0) → List Item → Type 0
+TakesFront took items = (count : ℕ) × (count ≤ length items) × took (take count items)

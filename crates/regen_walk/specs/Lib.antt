@@ -1,0 +1,10 @@
+pub mod Registers
+pub mod Accesses
+pub mod Labels
+pub mod Moves
+pub mod Walks
+pub mod FreeArcs
+pub mod WalkView
+pub mod Promises
+pub mod Laws
+pub mod Inner

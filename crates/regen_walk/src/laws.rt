@@ -1,0 +1,18 @@
+//! Laws of walks, each the contract of a function that does nothing.
+ghost use Rattle.regen_walk.specs.Laws.{ExplainedHaveItems, SameRecordsSameWalk, ShortestEndsWithRecord};
+
+/// Two walks with the same records are one, up to and with the move that has the last of them. That holds of any records, whether a
+/// run gave them or not.
+pub fn walks_with_the_same_records_are_one()
+    ensures { SameRecordsSameWalk }
+{}
+
+/// Up to and with the move that has the last record, a walk is the shortest with its records.
+pub fn the_shortest_walk_ends_with_a_record()
+    ensures { ShortestEndsWithRecord }
+{}
+
+/// Records that are explained have items, and no others.
+pub fn explained_records_have_one_list_of_items()
+    ensures { ExplainedHaveItems }
+{}

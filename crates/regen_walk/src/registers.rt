@@ -1,0 +1,51 @@
+//! The registers of a walk.
+ghost use Rattle.std.specs.Prelude.{◌≡◌, ◌<◌, ◌≤◌, length};
+ghost use Rattle.ae_nums.specs.Registers.{registers_of};
+ghost use Rattle.regen_walk.specs.Registers.{walk_registers, value_of, with_value_in, with_values};
+
+use ae_nums::registers_of;
+
+/// The registers at the start: as those of a run at its start.
+pub fn walk_registers() -> [u32; 32]
+    ensures { result ≡ walk_registers }
+{
+    let mut registers = [0; 32];
+    registers[2] = 0x7fff_ffc0;
+    registers
+}
+
+/// The value of a register.
+#[inline(always)]
+pub fn value_of(registers: &[u32; 32], register: u8) -> u32
+    requires { register < 32 }
+    ensures { result ≡ value_of registers.now register }
+{
+    if register == 0 {
+        0
+    } else {
+        registers[register as usize]
+    }
+}
+
+/// Puts a value into a register.
+#[inline(always)]
+pub fn put_value(registers: &mut [u32; 32], register: u8, value: u32)
+    requires { register < 32 }
+    ensures { registers.new ≡ with_value_in registers.old register value }
+{
+    if register != 0 {
+        registers[register as usize] = value;
+    }
+}
+
+/// Puts values into the registers of a mask, in order.
+pub fn put_values(registers: &mut [u32; 32], mask: u32, values: &[u32])
+    requires { length values.now ≡ length (registers_of mask) }
+    ensures { registers.new ≡ with_values registers.old (registers_of mask) values.now }
+{
+    let mut place = 0;
+    for register in registers_of(mask) {
+        put_value(registers, register, values[place]);
+        place += 1;
+    }
+}
