@@ -1,9 +1,12 @@
 pub mod Numbered
 pub mod Lines
 pub mod SomeText
+pub mod Spaced
 pub mod ElfText
 pub mod CodeText
 pub mod GraphText
 pub mod NeedsText
 pub mod SliceText
+pub mod SchemaText
+pub mod EventText
 pub mod Inner

@@ -1,41 +1,21 @@
 //! The text of slices.
 ghost use Rattle.std.specs.Prelude.{◌≡◌, ◌≤◌, true, [], ◌∷◌, OnOk, OnErr, IsErrOf, filter};
-ghost use Rattle.std.specs.List.{flat_map};
 ghost use Rattle.ae_nums.specs.Writer.{Puts};
 ghost use Rattle.ae_ports.specs.Fault.{HasRisen};
 ghost use Rattle.reach_slice.specs.Slices.{is_access};
 ghost use Rattle.ae_print.specs.Inner.SomePut.{PutsSome};
 ghost use Rattle.ae_print.specs.Lines.{AreFirstLines, AreLines};
-ghost use Rattle.ae_print.specs.SliceText.{IsFirstOfSliceText, IsSliceLine, IsSliceText, slice_line, sliced_text};
+ghost use Rattle.ae_print.specs.SliceText.{IsFirstOfSliceText, IsSliceLine, IsSliceText, slice_line};
 ghost use Rattle.ae_print.specs.SomeText.{AppendsFrontOfSome, AppendsSome};
 
 use crate::PrintFault;
-use crate::pieces::push_word;
-use ae_nums::{LineWriter, Text, hex8};
+use crate::spaced::write_spaced;
+use ae_nums::{LineWriter, hex8};
 use ae_ports::{Failed, Sink};
 use flow_graph::{Graph, address_at};
 use reach_slice::{Reaching, SliceFault};
 use rv_code::count_in;
 use std::alloc::Global;
-
-/// A word of a slice, behind a blank.
-fn text_of_sliced(word: u32) -> Text
-    ensures { result ≡ sliced_text word }
-{
-    let mut text = Text::new();
-    push_word(&mut text, b" ", word);
-    text
-}
-
-/// Writes the words of a slice.
-fn write_words<K: Sink>(slice: &[u32], lines: &mut LineWriter<'_, K>) -> Result<(), Failed>
-    ensures { Puts K.told K.faults K.same_rest lines.old lines.new (flat_map sliced_text slice.now) result }
-{
-    for word in slice {
-        lines.write(text_of_sliced(*word).bytes())?;
-    }
-    Ok(())
-}
 
 /// Writes the line of an access with this slice.
 fn write_slice<K: Sink>(
@@ -46,7 +26,7 @@ fn write_slice<K: Sink>(
     ensures { Puts K.told K.faults K.same_rest lines.old lines.new (slice_line access slice.now) result }
 {
     lines.write(&hex8(access))?;
-    write_words(slice, lines)?;
+    write_spaced(slice, lines)?;
     lines.write(b"\n")
 }
 
