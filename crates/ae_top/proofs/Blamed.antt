@@ -8,8 +8,10 @@ use Rattle.rv_machine.specs.declared.outcome.Outcome.{Outcome}
 use Rattle.rv_machine.specs.declared.outcome.Outcome.TheVariants.{Ended, Spent}
 use Rattle.ae_top.specs.declared.no_file.NoFile.{NoFile}
 use Rattle.ae_top.specs.declared.no_file.NotTaken.{NotTaken}
+use Rattle.ae_top.specs.declared.schema_file.NoSchema.{NoSchema}
 use Rattle.ae_top.specs.declared.status.Status.{Status}
 use Rattle.ae_top.specs.NoFile.{status_without}
+use Rattle.ae_top.specs.SchemaFile.{status_without_schema}
 use Rattle.ae_top.specs.Running.{status_of}
 use Rattle.ae_top.specs.Inner.Machine.{BlamesStreams}
 use Rattle.ae_top.specs.World.{World, Blames, BlamesDevices}
@@ -142,6 +144,34 @@ pub without_unused : (why : NoFile) (word : ℕ) → status_without why word ≡
 without_unused why word is = without_used why word (subst IsUsage (sym is) tt)
 
 -- a fault that was answered as an error
-pub of_err : {T : Type 0} (why other : NoFile) (before now : ℕ) → Blames (IsErrOf {T = T} (Err why) other) before now → Blames (why ≡ other) before now
-of_err {T} why other before now blames =
+pub of_err : {T : Type 0} {E : Type 0} (why other : E) (before now : ℕ) → Blames (IsErrOf {T = T} (Err why) other) before now → Blames (why ≡ other) before now
+of_err {T} {E} why other before now blames =
     blames_as (IsErrOf {T = T} (Err why) other) (why ≡ other) before now (λ is. cc) (λ is. ap Err is) blames
+
+told_without_schema : (why : NoSchema) (word : ℕ) → (fault_told (status_without_schema why word) ≡ None) ⊎ (fault_told (status_without_schema why word) ≡ Some MachineFault.EventFault)
+told_without_schema NoSchema.Missing word = inl refl
+told_without_schema NoSchema.StoreFault word = inr refl
+told_without_schema NoSchema.NoMemory word = inl refl
+told_without_schema (NoSchema.Bad fault) word = inl refl
+
+store_without_schema : (why : NoSchema) (word : ℕ) → status_without_schema why word ≡ Status.StoreFault → why ≡ NoSchema.StoreFault
+store_without_schema NoSchema.Missing word is = absurd (cc is)
+store_without_schema NoSchema.StoreFault word is = refl
+store_without_schema NoSchema.NoMemory word is = absurd (cc is)
+store_without_schema (NoSchema.Bad fault) word is = absurd (cc is)
+
+pub no_schema_blames : (why : NoSchema) (word : ℕ) (before now : World) → now.streams ≡ before.streams → Blames (why ≡ NoSchema.StoreFault) before.store.faults now.store.faults
+    → BlamesDevices (status_without_schema why word) before now
+no_schema_blames why word before now same store =
+    store_blames (status_without_schema why word) before now same (told_without_schema why word)
+    (blames_as (why ≡ NoSchema.StoreFault) (status_without_schema why word ≡ Status.StoreFault) before.store.faults now.store.faults
+    (λ is. ap (λ w. status_without_schema w word) is) (store_without_schema why word) store)
+
+without_schema_used : (why : NoSchema) (word : ℕ) → IsUsage (status_without_schema why word) → ⊥
+without_schema_used NoSchema.Missing word is = is
+without_schema_used NoSchema.StoreFault word is = is
+without_schema_used NoSchema.NoMemory word is = is
+without_schema_used (NoSchema.Bad fault) word is = is
+
+pub schema_unused : (why : NoSchema) (word : ℕ) → status_without_schema why word ≡ Status.Usage → ⊥
+schema_unused why word is = without_schema_used why word (subst IsUsage (sym is) tt)

@@ -2,11 +2,13 @@
 use Rattle.std.proofs.Common.{◌≡◌, subst, ℕ, List, [], Option, Some, slice_index_or, sym}
 use Rattle.ae_top.specs.declared.status.Status.{Status}
 use Rattle.ae_top.specs.declared.task.Task.{Task}
-use Rattle.ae_top.specs.declared.task.Task.TheVariants.{Run, Plain, Print}
+use Rattle.ae_top.specs.declared.task.Task.TheVariants.{Run, Plain, Print, PrintSchema, PrintEvents}
 use Rattle.ae_top.specs.declared.task.PrintKind.{PrintKind}
 use Rattle.ae_top.specs.Inner.Command.{Carries}
 use Rattle.ae_top.specs.Plain.{KeepsPlain}
 use Rattle.ae_top.specs.Printing.{KeepsPrint}
+use Rattle.ae_top.specs.PrintEvents.{KeepsPrintEvents}
+use Rattle.ae_top.specs.PrintSchema.{KeepsPrintSchema}
 use Rattle.ae_top.specs.Run.{KeepsRun}
 use Rattle.ae_top.specs.Task.{task_in}
 use Rattle.ae_top.specs.Top.{Keeps, CarriesOut}
@@ -43,3 +45,18 @@ pub print_carried : (words : List (List ℕ)) (kind : PrintKind) (place : ℕ) (
 print_carried words kind place name status before now is named carries =
     carried words (Print kind place) status before now is
     (subst (λ (name : List ℕ). Carries (KeepsPrint kind place name status before now) status before now) named carries)
+
+pub schema_carried : (words : List (List ℕ)) (place : ℕ) (name : List ℕ) (status : Status) (before now : World)
+    → task_in words ≡ Some (PrintSchema place) → name ≡ slice_index_or words place []
+    → Carries (KeepsPrintSchema place name status before now) status before now → CarriesOut words status before now
+schema_carried words place name status before now is named carries =
+    carried words (PrintSchema place) status before now is
+    (subst (λ (name : List ℕ). Carries (KeepsPrintSchema place name status before now) status before now) named carries)
+
+pub events_carried : (words : List (List ℕ)) (schema_place events_place : ℕ) (schema events : List ℕ) (status : Status) (before now : World)
+    → task_in words ≡ Some (PrintEvents schema_place events_place) → schema ≡ slice_index_or words schema_place [] → events ≡ slice_index_or words events_place []
+    → Carries (KeepsPrintEvents schema_place schema events_place events status before now) status before now → CarriesOut words status before now
+events_carried words schema_place events_place schema events status before now is schema_named events_named carries =
+    carried words (PrintEvents schema_place events_place) status before now is
+    (subst (λ (schema : List ℕ). Carries (KeepsPrintEvents schema_place schema events_place (slice_index_or words events_place []) status before now) status before now) schema_named
+    (subst (λ (events : List ℕ). Carries (KeepsPrintEvents schema_place schema events_place events status before now) status before now) events_named carries))

@@ -1,12 +1,16 @@
 pub mod Behind
 pub mod Blamed
 pub mod FilesBehind
+pub mod FromItsGraph
 pub mod Fronts
 pub mod Kept
+pub mod KeptEvents
+pub mod KeptSchema
 pub mod KeptTop
 pub mod Named
 pub mod Printed
 pub mod Ran
 pub mod Shown
+pub mod ToldBehind
 pub mod TooLong
 pub mod Traced

@@ -20,6 +20,8 @@ abbrev pub Within : ℕ → Task → Type 0
 Within count (Task.Run prog fuel) = prog < count
 Within count (Task.Plain prog trace fuel) = (prog < count) × (trace < count)
 Within count (Task.Print kind file) = file < count
+Within count (Task.PrintSchema file) = file < count
+Within count (Task.PrintEvents schema events) = (schema < count) × (events < count)
 
 -- the same of the task of a command
 abbrev Names : ℕ → Option Command → Type 0
@@ -90,14 +92,14 @@ profile_of_named count (schema ∷ events ∷ more ∷ rest) = tt
 
 kind_of_named : (count : ℕ) (kind : List ℕ) → 2 < count → Names count (print_kind_command kind)
 kind_of_named count kind h =
-    either count (bytes_eq kind (codes "elf")) _ _ h (either count (bytes_eq kind (codes "code")) _ _ h (either count (bytes_eq kind (codes "graph")) _ _ h (either count (bytes_eq kind (codes "needs")) _ _ h (either count (bytes_eq kind (codes "slice")) _ _ h (either count (bytes_eq kind (codes "schema")) _ _ tt (tt))))))
+    either count (bytes_eq kind (codes "elf")) _ _ h (either count (bytes_eq kind (codes "code")) _ _ h (either count (bytes_eq kind (codes "graph")) _ _ h (either count (bytes_eq kind (codes "needs")) _ _ h (either count (bytes_eq kind (codes "slice")) _ _ h (either count (bytes_eq kind (codes "schema")) _ _ h (tt))))))
 
 print_of_named : (count : ℕ) (words : List (List ℕ)) → length words < count → Names count (print_command words)
 print_of_named count [] h = tt
 print_of_named count (kind ∷ []) h = tt
 print_of_named count (kind ∷ file ∷ []) h = where_so count (is_file_word file) (print_kind_command kind) (kind_of_named count kind h)
 print_of_named count (kind ∷ schema ∷ events ∷ []) h =
-    where_so count (bytes_eq kind (codes "events") && are_file_words (schema ∷ events ∷ [])) (Some (PrintEvents 2 3)) tt
+    where_so count (bytes_eq kind (codes "events") && are_file_words (schema ∷ events ∷ [])) (Some (PrintEvents 2 3)) (omega arith, h)
 print_of_named count (kind ∷ schema ∷ events ∷ more ∷ rest) h = tt
 
 number_named : (count : ℕ) (number : Option ℕ) → Names count (option_map (λ n. Sample n 2 3 4) number)
@@ -142,3 +144,10 @@ plain_named_words words prog trace fuel is = subst (λ (task : Option Task). Mat
 
 pub print_named_word : (words : List (List ℕ)) (kind : PrintKind) (file : ℕ) → task_in words ≡ Some (Task.Print kind file) → file < length words
 print_named_word words kind file is = subst (λ (task : Option Task). MatchOption task ⊤ (Within (length words))) is (named words)
+
+pub schema_named_word : (words : List (List ℕ)) (file : ℕ) → task_in words ≡ Some (Task.PrintSchema file) → file < length words
+schema_named_word words file is = subst (λ (task : Option Task). MatchOption task ⊤ (Within (length words))) is (named words)
+
+pub events_named_words : (words : List (List ℕ)) (schema events : ℕ) → task_in words ≡ Some (Task.PrintEvents schema events)
+    → (schema < length words) × (events < length words)
+events_named_words words schema events is = subst (λ (task : Option Task). MatchOption task ⊤ (Within (length words))) is (named words)

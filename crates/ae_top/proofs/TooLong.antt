@@ -9,6 +9,8 @@ use Rattle.elf_image.specs.declared.fault.ImageFault.TheVariants.{TooLarge}
 use Rattle.elf_image.specs.declared.fault.Over.TheVariants.{File}
 use Rattle.elf_raw.specs.declared.limits.TheConstants.{FILE_LIMIT}
 use Rattle.elf_raw.specs.Refusal.{elf_refusal}
+use Rattle.ae_top.specs.declared.inputs.NotRead.{NotRead}
+use Rattle.ae_top.specs.Inputs.{IsAbsent, IsNotRead}
 use Rattle.ae_top.specs.declared.no_file.NoFile.{NoFile}
 use Rattle.ae_top.specs.declared.no_file.NotTaken.{NotTaken}
 use Rattle.ae_top.specs.declared.refusal.Refusal.TheVariants.{Elf, Image}
@@ -41,6 +43,31 @@ no_room (Some files) name size tells small = go (files name) refl tells
 pub missing : (told : Option Files) (name : List ℕ) → TellsSize told name (Ok None) → Lacks tables_refusal told name NoFile.Missing
 missing None name tells = tt
 missing (Some files) name tells = go (files name) tells
+  where
+    go : (file : Option (List ℕ)) → None ≡ option_map length file → file ≡ None
+    go None is = refl
+    go (Some bytes) is = absurd (cc is)
+
+-- the same of any file that a command reads, and its limit
+pub longer : (told : Option Files) (name : List ℕ) (size limit : ℕ) → TellsSize told name (Ok (Some size)) → limit < size → IsNotRead told name limit NotRead.TooLong
+longer None name size limit tells long = (replicate size 0, tt, omega (arith, long, length-replicate {A = ℕ} size 0))
+longer (Some files) name size limit tells long = go (files name) refl tells
+  where
+    go : (file : Option (List ℕ)) → files name ≡ file → Some size ≡ option_map length file → IsNotRead (Some files) name limit NotRead.TooLong
+    go None is tells = absurd (cc tells)
+    go (Some bytes) is tells = let same : size ≡ length bytes = cc in (bytes, is, omega (arith, same, long))
+
+pub no_room_for : (told : Option Files) (name : List ℕ) (size limit : ℕ) → TellsSize told name (Ok (Some size)) → size ≤ limit → IsNotRead told name limit NotRead.NoMemory
+no_room_for None name size limit tells small = ([], tt, omega arith)
+no_room_for (Some files) name size limit tells small = go (files name) refl tells
+  where
+    go : (file : Option (List ℕ)) → files name ≡ file → Some size ≡ option_map length file → IsNotRead (Some files) name limit NotRead.NoMemory
+    go None is tells = absurd (cc tells)
+    go (Some bytes) is tells = let same : size ≡ length bytes = cc in (bytes, is, omega (arith, same, small))
+
+pub absent : (told : Option Files) (name : List ℕ) → TellsSize told name (Ok None) → IsAbsent told name
+absent None name tells = tt
+absent (Some files) name tells = go (files name) tells
   where
     go : (file : Option (List ℕ)) → None ≡ option_map length file → file ≡ None
     go None is = refl

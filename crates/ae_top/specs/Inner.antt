@@ -4,5 +4,7 @@ pub mod Command
 pub mod Loading
 pub mod Machine
 pub mod Printing
+pub mod FromGraph
 pub mod Reading
+pub mod PrintEvents
 pub mod Tracing

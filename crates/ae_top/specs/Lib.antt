@@ -1,6 +1,8 @@
 pub mod World
 pub mod Refusing
 pub mod NoFile
+pub mod Inputs
+pub mod SchemaFile
 pub mod Task
 pub mod Status
 pub mod EndingLines
@@ -9,5 +11,7 @@ pub mod Running
 pub mod Run
 pub mod Plain
 pub mod Printing
+pub mod PrintSchema
+pub mod PrintEvents
 pub mod Top
 pub mod Inner

@@ -2,6 +2,7 @@
 -- byte. A run that has ended has its ending's line, and no other.
 use Rattle.std.specs.Prelude.{◌≡◌, ◌⊎◌, ℕ, List, [], ◌++◌, Bool, true, false, MatchBool, slice_index_or, codes}
 use Rattle.ae_nums.specs.Decimal.{decimal_text}
+use Rattle.ae_nums.specs.Hex.{hex8_text}
 use Rattle.ae_nums.specs.Trace.{newline}
 use Rattle.ae_ports.specs.Content.{Appends, AppendsFront}
 use Rattle.ae_ports.specs.Fault.{HasRisen}
@@ -10,10 +11,14 @@ use Rattle.elf_image.specs.declared.fault.ImageFault.TheVariants.{Dynamic, Segme
 use Rattle.elf_image.specs.declared.fault.Over.TheVariants.{File, Mapped, Ranges, Words}
 use Rattle.elf_raw.specs.declared.fault.ElfFault.{ElfFault}
 use Rattle.elf_raw.specs.declared.fault.ElfFault.TheVariants.{NotElf, NotElf32Le, NotExec, NotRiscv, Compressed, OtherAbi, BadTable}
+use Rattle.schema_form.specs.declared.fault.SchemaFault.{SchemaFault}
+use Rattle.schema_form.specs.declared.fault.SchemaFault.TheVariants.{NotSchema, BadEntry, NotAForest}
+use Rattle.ae_top.specs.declared.events_refusal.EventsRefusal.{EventsRefusal}
+use Rattle.ae_top.specs.declared.events_refusal.EventsRefusal.TheVariants.{OtherProgram, BadRecord}
 use Rattle.ae_top.specs.declared.refusal.Refusal.{Refusal}
 use Rattle.ae_top.specs.declared.refusal.Refusal.TheVariants.{Elf, Image}
 use Rattle.ae_top.specs.declared.status.Status.{Status}
-use Rattle.ae_top.specs.declared.status.Status.TheVariants.{Done, Usage, Missing, Refused, StoreFault, InputFault, OutFault, ErrFault, FuelSpent, Faulted, Memory}
+use Rattle.ae_top.specs.declared.status.Status.TheVariants.{Done, Usage, CutShort, Missing, Refused, BadSchema, BadEvents, StoreFault, InputFault, OutFault, ErrFault, FuelSpent, Faulted, Memory}
 use Rattle.ae_top.specs.World.{Port}
 
 -- what a refusal says, before the place that it names
@@ -45,12 +50,41 @@ refusal_detail (Image (Segments index)) = decimal_text index
 refusal_detail (Image (BadRelocation index)) = decimal_text index
 refusal_detail _ = []
 
+-- what the refusal of a schema says, before the place that it names
+abbrev pub schema_refusal_text : SchemaFault → List ℕ
+schema_refusal_text NotSchema = codes "ae: schema S1"
+schema_refusal_text (BadEntry offset) = codes "ae: schema S2 at "
+schema_refusal_text (NotAForest edge) = codes "ae: schema S3 edge "
+schema_refusal_text SchemaFault.TooLarge = codes "ae: schema S4"
+schema_refusal_text SchemaFault.NoMemory = []
+
+-- the offset, or the name of the edge
+abbrev pub schema_refusal_detail : SchemaFault → List ℕ
+schema_refusal_detail NotSchema = []
+schema_refusal_detail (BadEntry offset) = decimal_text offset
+schema_refusal_detail (NotAForest edge) = hex8_text edge
+schema_refusal_detail SchemaFault.TooLarge = []
+schema_refusal_detail SchemaFault.NoMemory = []
+
+-- what the refusal of an event file says, before the offset that it names
+abbrev pub events_refusal_text : EventsRefusal → List ℕ
+events_refusal_text OtherProgram = codes "ae: events other program"
+events_refusal_text (BadRecord offset) = codes "ae: events bad record at "
+
+-- the offset
+abbrev pub events_refusal_detail : EventsRefusal → List ℕ
+events_refusal_detail OtherProgram = []
+events_refusal_detail (BadRecord offset) = decimal_text offset
+
 -- what a status says, before the name or number that it has
 abbrev pub status_text : Status → List ℕ
 status_text Done = []
 status_text Usage = codes "ae: usage"
+status_text CutShort = codes "ae: events cut short"
 status_text (Missing word) = codes "ae: missing "
 status_text (Refused refusal) = refusal_text refusal
+status_text (BadSchema fault) = schema_refusal_text fault
+status_text (BadEvents refusal) = events_refusal_text refusal
 status_text StoreFault = codes "ae: store fault"
 status_text InputFault = codes "ae: input fault"
 status_text OutFault = codes "ae: out fault"
@@ -64,6 +98,8 @@ abbrev pub status_detail : List (List ℕ) → Status → List ℕ
 status_detail words (Missing word) = slice_index_or words word []
 status_detail words (FuelSpent steps) = decimal_text steps
 status_detail words (Refused refusal) = refusal_detail refusal
+status_detail words (BadSchema fault) = schema_refusal_detail fault
+status_detail words (BadEvents refusal) = events_refusal_detail refusal
 status_detail words _ = []
 
 abbrev pub status_line : List (List ℕ) → Status → List ℕ

@@ -1,6 +1,6 @@
 -- The commands that are carried out today: `run PROG` and `plain PROG TRACE`, each with the option of its fuel, and
--- `print elf FILE`, `print code FILE`, `print graph FILE`, `print needs FILE` and `print slice FILE`. All other words are answered as if they
--- spelled no command.
+-- `print elf FILE`, `print code FILE`, `print graph FILE`, `print needs FILE`, `print slice FILE`, `print schema FILE` and
+-- `print events SCHEMA EVENTS`. All other words are answered as if they spelled no command.
 use Rattle.std.specs.Prelude.{ℕ, List, Option, None, Some}
 use Rattle.std.specs.Option.{option_and_then}
 use Rattle.ae_words.specs.declared.command.Command.{Command}
@@ -29,8 +29,8 @@ task_of (PrintCode file) = Some (Task.Print Code file)
 task_of (PrintGraph file) = Some (Task.Print Graph file)
 task_of (PrintNeeds file) = Some (Task.Print Needs file)
 task_of (PrintSlice file) = Some (Task.Print Slice file)
-task_of (PrintSchema file) = None
-task_of (PrintEvents schema events) = None
+task_of (PrintSchema file) = Some (Task.PrintSchema file)
+task_of (PrintEvents schema events) = Some (Task.PrintEvents schema events)
 task_of (Sample number new schema events) = None
 task_of Help = None
 

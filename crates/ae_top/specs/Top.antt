@@ -6,9 +6,11 @@ use Rattle.rv_code.specs.declared.ending.Ending.{Ending}
 use Rattle.ae_top.specs.declared.status.Status.{Status}
 use Rattle.ae_top.specs.declared.status.Status.TheVariants.{Done, Usage, StoreFault, InputFault, OutFault, ErrFault, Faulted}
 use Rattle.ae_top.specs.declared.task.Task.{Task}
-use Rattle.ae_top.specs.declared.task.Task.TheVariants.{Run, Plain, Print}
+use Rattle.ae_top.specs.declared.task.Task.TheVariants.{Run, Plain, Print, PrintSchema, PrintEvents}
 use Rattle.ae_top.specs.Plain.{KeepsPlain}
 use Rattle.ae_top.specs.Printing.{KeepsPrint}
+use Rattle.ae_top.specs.PrintEvents.{KeepsPrintEvents}
+use Rattle.ae_top.specs.PrintSchema.{KeepsPrintSchema}
 use Rattle.ae_top.specs.Run.{KeepsRun}
 use Rattle.ae_top.specs.Status.{exit_code_of}
 use Rattle.ae_top.specs.StatusLines.{LineBehind}
@@ -29,6 +31,9 @@ Keeps (Some (Plain prog trace fuel)) words status before now =
     KeepsPlain prog (slice_index_or words prog []) (slice_index_or words trace []) fuel status before now
 Keeps (Some (Print kind file)) words status before now =
     KeepsPrint kind file (slice_index_or words file []) status before now
+Keeps (Some (PrintSchema file)) words status before now = KeepsPrintSchema file (slice_index_or words file []) status before now
+Keeps (Some (PrintEvents schema events)) words status before now =
+    KeepsPrintEvents schema (slice_index_or words schema []) events (slice_index_or words events []) status before now
 
 -- What the words ask for was carried out, up to the line of the status: its promise is kept, a device's fault is the status
 -- only where that device failed, and only words that ask for nothing are `Usage`.

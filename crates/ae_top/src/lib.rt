@@ -3,24 +3,29 @@
 #![tactic(auto)]
 
 mod ending_lines;
+mod events_refusal;
 mod exit;
 mod finishing;
+mod from_graph;
 mod graph;
+mod inputs;
 mod no_file;
 mod plain;
+mod print_events;
+mod print_schema;
 mod printing;
 mod program;
 mod reading;
 mod refusal;
 mod refusal_lines;
 mod run;
+mod schema_file;
 mod status;
 mod status_lines;
 mod task;
-#[cfg(test)]
-mod tests;
 mod top;
 
+pub use events_refusal::EventsRefusal;
 pub use exit::exit_code;
 pub use refusal::Refusal;
 pub use status::Status;

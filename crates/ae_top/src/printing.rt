@@ -7,17 +7,13 @@ ghost use Rattle.ae_top.specs.Printing.{KeepsPrint};
 ghost use Rattle.ae_top.specs.World.{Port, port, world, Blames};
 
 use crate::Status;
-use crate::graph::graph_of;
+use crate::from_graph::{FromGraph, print_from_graph};
 use crate::no_file::{NoFile, NotTaken, status_without};
 use crate::program::{accept_file, read_program, read_tables};
 use crate::task::PrintKind;
 use ae_ports::{Failed, Sink, Store, Word};
-use ae_print::PrintFault;
 use elf_raw::FILE_LIMIT;
-use flow_tree::{Weights, witnesses};
-use need_sets::Needs;
-use reach_slice::Reaching;
-use std::alloc::{AllocError, Global};
+use std::alloc::Global;
 
 /// Why a file that was read isn't printed, or not all of it.
 #[derive(Clone, Copy, Debug, PartialEq, Eq)]
@@ -64,75 +60,6 @@ fn print_code<O: Sink>(alloc: Global, bytes: &[u8], out: &mut O) -> Result<(), N
     }
 }
 
-/// Prints the flow graph of an executable without a note, whose bytes these are.
-fn print_graph<O: Sink>(alloc: Global, bytes: &[u8], out: &mut O) -> Result<(), NotPrinted>
-    requires small { length bytes.now ≤ FILE_LIMIT }
-    ensures prints { Prints PrintKind.Graph bytes.now result (O.told out.old) (O.told out.new) }
-    ensures blames { Blames (IsErrOf result NotPrinted.OutFault) (O.faults out.old) (O.faults out.new) }
-    ensures rest { O.same_rest out.old out.new }
-{
-    let graph = match graph_of(alloc, bytes) {
-        Ok(graph) => graph,
-        Err(why) => return Err(NotPrinted::NotTaken(why)),
-    };
-    let weights = match Weights::by_depth(alloc, &graph) {
-        Ok(weights) => weights,
-        Err(AllocError) => return Err(NotPrinted::NotTaken(NotTaken::NoMemory)),
-    };
-    let forest = match witnesses(alloc, &graph, &weights) {
-        Ok(forest) => forest,
-        Err(AllocError) => return Err(NotPrinted::NotTaken(NotTaken::NoMemory)),
-    };
-    match ae_print::print_graph(alloc, &graph, &weights, &forest, out) {
-        Ok(()) => Ok(()),
-        Err(PrintFault::Failed) => Err(NotPrinted::OutFault),
-        Err(PrintFault::NoMemory) => Err(NotPrinted::NoMemory),
-    }
-}
-
-/// Prints the needs of an executable without a note, whose bytes these are.
-fn print_needs<O: Sink>(alloc: Global, bytes: &[u8], out: &mut O) -> Result<(), NotPrinted>
-    requires small { length bytes.now ≤ FILE_LIMIT }
-    ensures prints { Prints PrintKind.Needs bytes.now result (O.told out.old) (O.told out.new) }
-    ensures blames { Blames (IsErrOf result NotPrinted.OutFault) (O.faults out.old) (O.faults out.new) }
-    ensures rest { O.same_rest out.old out.new }
-{
-    let graph = match graph_of(alloc, bytes) {
-        Ok(graph) => graph,
-        Err(why) => return Err(NotPrinted::NotTaken(why)),
-    };
-    let needs = match Needs::build(alloc, &graph) {
-        Ok(needs) => needs,
-        Err(AllocError) => return Err(NotPrinted::NotTaken(NotTaken::NoMemory)),
-    };
-    match ae_print::print_needs(&graph, &needs, out) {
-        Ok(()) => Ok(()),
-        Err(Failed) => Err(NotPrinted::OutFault),
-    }
-}
-
-/// Prints the slices of an executable without a note, whose bytes these are.
-fn print_slices<O: Sink>(alloc: Global, bytes: &[u8], out: &mut O) -> Result<(), NotPrinted>
-    requires small { length bytes.now ≤ FILE_LIMIT }
-    ensures prints { Prints PrintKind.Slice bytes.now result (O.told out.old) (O.told out.new) }
-    ensures blames { Blames (IsErrOf result NotPrinted.OutFault) (O.faults out.old) (O.faults out.new) }
-    ensures rest { O.same_rest out.old out.new }
-{
-    let graph = match graph_of(alloc, bytes) {
-        Ok(graph) => graph,
-        Err(why) => return Err(NotPrinted::NotTaken(why)),
-    };
-    let reaching = match Reaching::build(alloc, &graph) {
-        Ok(reaching) => reaching,
-        Err(AllocError) => return Err(NotPrinted::NotTaken(NotTaken::NoMemory)),
-    };
-    match ae_print::print_slices(alloc, &graph, &reaching, out) {
-        Ok(()) => Ok(()),
-        Err(PrintFault::Failed) => Err(NotPrinted::OutFault),
-        Err(PrintFault::NoMemory) => Err(NotPrinted::NoMemory),
-    }
-}
-
 /// Prints what is asked of the file with these bytes.
 fn print_bytes<O: Sink>(
     alloc: Global,
@@ -148,9 +75,9 @@ fn print_bytes<O: Sink>(
     match kind {
         PrintKind::Elf => print_tables(alloc, bytes, out),
         PrintKind::Code => print_code(alloc, bytes, out),
-        PrintKind::Graph => print_graph(alloc, bytes, out),
-        PrintKind::Needs => print_needs(alloc, bytes, out),
-        PrintKind::Slice => print_slices(alloc, bytes, out),
+        PrintKind::Graph => print_from_graph(alloc, FromGraph::Witnesses, bytes, out),
+        PrintKind::Needs => print_from_graph(alloc, FromGraph::Needs, bytes, out),
+        PrintKind::Slice => print_from_graph(alloc, FromGraph::Slices, bytes, out),
     }
 }
 

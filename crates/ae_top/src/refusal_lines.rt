@@ -1,12 +1,14 @@
 //! What the line of a refusal says.
 ghost use Rattle.std.specs.Prelude.{◌≡◌};
 ghost use Rattle.ae_nums.specs.Decimal.{decimal_text};
-ghost use Rattle.ae_top.specs.StatusLines.{refusal_text, refusal_detail};
+ghost use Rattle.ae_nums.specs.Hex.{hex8_text};
+ghost use Rattle.ae_top.specs.StatusLines.{refusal_text, refusal_detail, schema_refusal_text, schema_refusal_detail, events_refusal_text, events_refusal_detail};
 
-use crate::Refusal;
-use ae_nums::{Text, decimal};
+use crate::{EventsRefusal, Refusal};
+use ae_nums::{Text, decimal, hex8};
 use elf_image::{ImageFault, Over};
 use elf_raw::ElfFault;
+use schema_form::SchemaFault;
 
 /// The fixed part of the line.
 pub fn refusal_text(refusal: Refusal) -> &'static [u8]
@@ -52,5 +54,58 @@ pub fn refusal_detail(refusal: Refusal) -> Text
         Refusal::Image(ImageFault::Segments { index }) => digits_of(u64::from(index)),
         Refusal::Image(ImageFault::BadRelocation { index }) => digits_of(u64::from(index)),
         _ => Text::new(),
+    }
+}
+
+/// The fixed part of the line of a refused schema.
+pub fn schema_refusal_text(fault: SchemaFault) -> &'static [u8]
+    ensures { result.now ≡ schema_refusal_text fault }
+{
+    match fault {
+        SchemaFault::NotSchema => b"ae: schema S1",
+        SchemaFault::BadEntry { .. } => b"ae: schema S2 at ",
+        SchemaFault::NotAForest { .. } => b"ae: schema S3 edge ",
+        SchemaFault::TooLarge => b"ae: schema S4",
+        SchemaFault::NoMemory => b"",
+    }
+}
+
+/// The name of an edge: an address, and 1 more where it is taken.
+fn name_of(edge: u32) -> Text
+    ensures { result ≡ hex8_text edge }
+{
+    let mut name = Text::new();
+    name.push(&hex8(edge));
+    name
+}
+
+/// The place that the line of a refused schema names: an offset, or an edge.
+pub fn schema_refusal_detail(fault: SchemaFault) -> Text
+    ensures { result ≡ schema_refusal_detail fault }
+{
+    match fault {
+        SchemaFault::BadEntry { offset } => digits_of(u64::from(offset)),
+        SchemaFault::NotAForest { edge } => name_of(edge),
+        SchemaFault::NotSchema | SchemaFault::TooLarge | SchemaFault::NoMemory => Text::new(),
+    }
+}
+
+/// The fixed part of the line of a refused event file.
+pub fn events_refusal_text(refusal: EventsRefusal) -> &'static [u8]
+    ensures { result.now ≡ events_refusal_text refusal }
+{
+    match refusal {
+        EventsRefusal::OtherProgram => b"ae: events other program",
+        EventsRefusal::BadRecord { .. } => b"ae: events bad record at ",
+    }
+}
+
+/// The offset that the line of a refused event file names.
+pub fn events_refusal_detail(refusal: EventsRefusal) -> Text
+    ensures { result ≡ events_refusal_detail refusal }
+{
+    match refusal {
+        EventsRefusal::OtherProgram => Text::new(),
+        EventsRefusal::BadRecord { offset } => digits_of(offset),
     }
 }

@@ -1,8 +1,9 @@
 ghost use Rattle.std.specs.Prelude.{◌≡◌};
 ghost use Rattle.ae_top.specs.Status.{exit_code_of};
 
-use crate::Refusal;
+use crate::{EventsRefusal, Refusal};
 use rv_code::Ending;
+use schema_form::SchemaFault;
 
 /// What came of a command.
 #[derive(Clone, Copy, Debug, PartialEq, Eq)]
@@ -11,10 +12,16 @@ pub enum Status {
     Done,
     /// The words spell no command that is carried out.
     Usage,
+    /// The event file ends before a record says that the run ended. All that it has was worked on.
+    CutShort,
     /// The file that this word names, counted from 0, isn't there.
     Missing { word: u32 },
     /// The file isn't taken as an executable.
     Refused(Refusal),
+    /// The file isn't a schema.
+    BadSchema(SchemaFault),
+    /// The file isn't an event file of the program.
+    BadEvents(EventsRefusal),
     /// The store failed.
     StoreFault,
     /// The input failed.
@@ -39,8 +46,11 @@ impl Status {
         match self {
             Status::Done => 0,
             Status::Usage => 2,
+            Status::CutShort => 3,
             Status::Missing { .. } => 4,
             Status::Refused(_) => 5,
+            Status::BadSchema(_) => 6,
+            Status::BadEvents(_) => 7,
             Status::StoreFault => 8,
             Status::InputFault => 9,
             Status::OutFault => 10,

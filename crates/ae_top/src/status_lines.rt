@@ -7,7 +7,10 @@ ghost use Rattle.ae_top.specs.StatusLines.{status_text, status_detail, status_li
 ghost use Rattle.ae_top.specs.World.{port};
 
 use crate::Status;
-use crate::refusal_lines::{digits_of, refusal_detail, refusal_text};
+use crate::refusal_lines::{
+    digits_of, events_refusal_detail, events_refusal_text, refusal_detail, refusal_text,
+    schema_refusal_detail, schema_refusal_text,
+};
 use ae_ports::{Failed, Sink, Word, write_all};
 
 /// Writes a text, a detail and a newline.
@@ -29,8 +32,11 @@ fn fixed_text(status: Status) -> &'static [u8]
     match status {
         Status::Done | Status::Faulted(_) => b"",
         Status::Usage => b"ae: usage",
+        Status::CutShort => b"ae: events cut short",
         Status::Missing { .. } => b"ae: missing ",
         Status::Refused(refusal) => refusal_text(refusal),
+        Status::BadSchema(fault) => schema_refusal_text(fault),
+        Status::BadEvents(refusal) => events_refusal_text(refusal),
         Status::StoreFault => b"ae: store fault",
         Status::InputFault => b"ae: input fault",
         Status::OutFault => b"ae: out fault",
@@ -62,6 +68,12 @@ fn write_status<K: Sink>(sink: &mut K, words: &[Word], status: Status) -> Result
         Status::Missing { word } => write_line(sink, text, word_at(words, word)),
         Status::FuelSpent { steps } => write_line(sink, text, digits_of(steps).bytes()),
         Status::Refused(refusal) => write_line(sink, text, refusal_detail(refusal).bytes()),
+        Status::BadSchema(fault) => write_line(sink, text, schema_refusal_detail(fault).bytes()),
+        Status::BadEvents(refusal) => write_line(
+            sink,
+            text,
+            events_refusal_detail(refusal).bytes(),
+        ),
         _ => write_line(sink, text, b""),
     }
 }

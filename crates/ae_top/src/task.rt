@@ -29,6 +29,8 @@ pub enum Task {
     Run { prog: u32, fuel: u64 },
     Plain { prog: u32, trace: u32, fuel: u64 },
     Print { kind: PrintKind, file: u32 },
+    PrintSchema { file: u32 },
+    PrintEvents { schema: u32, events: u32 },
 }
 
 /// What the words ask for, `None` where they spell no command that is carried out.
@@ -84,12 +86,12 @@ fn task_of(command: Command) -> Option<Task>
             kind: PrintKind::Slice,
             file,
         }),
+        Command::PrintSchema { file } => Some(Task::PrintSchema { file }),
+        Command::PrintEvents { schema, events } => Some(Task::PrintEvents { schema, events }),
         Command::Run { .. }
         | Command::Rewrite { .. }
         | Command::Regenerate { .. }
         | Command::Profile { .. }
-        | Command::PrintSchema { .. }
-        | Command::PrintEvents { .. }
         | Command::Sample { .. }
         | Command::Help => None,
     }

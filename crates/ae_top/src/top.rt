@@ -4,6 +4,8 @@ ghost use Rattle.ae_top.specs.World.{port, world};
 
 use crate::Status;
 use crate::plain::plain;
+use crate::print_events::print_events;
+use crate::print_schema::print_schema;
 use crate::printing::print;
 use crate::run::run;
 use crate::status_lines::tell;
@@ -13,11 +15,12 @@ use std::alloc::Global;
 
 /// Carries out the command that the words spell, over the files of the store, the input and the two outputs, and answers
 /// with what came of it. The words are those after the program's name. Today `run PROG` and `plain PROG TRACE` are carried
-/// out, each with `--fuel N` or without, and `print elf FILE`, `print code FILE`, `print graph FILE`, `print needs FILE` and `print slice FILE`; all other words are answered with
-/// `Usage`.
+/// out, each with `--fuel N` or without, and `print elf FILE`, `print code FILE`, `print graph FILE`, `print needs FILE`, `print slice FILE`,
+/// `print schema FILE` and `print events SCHEMA EVENTS`; all other words are answered with `Usage`.
 ///
 /// Every call returns. The refusals come in this order: the words, a file that isn't there, one that is too long, a fault
-/// while it is read, what refuses it as an executable, and then what the run comes to.
+/// while it is read, what refuses it as an executable or a schema, and then what the run comes to, or the reading of an
+/// event file. Of two files that are read each is asked for before the first is read.
 /// The line of a status goes to the second output; whether it could be written changes nothing.
 pub fn ae<S: Store, I: Source, O: Sink, P: Sink>(
     alloc: Global,
@@ -94,6 +97,18 @@ fn carry_out<S: Store, I: Source, O: Sink, P: Sink>(
         Some(Task::Print { kind, file }) => {
             print(alloc, kind, &words[file as usize], file, store, out)
         }
+        Some(Task::PrintSchema { file }) => {
+            print_schema(alloc, &words[file as usize], file, store, out)
+        }
+        Some(Task::PrintEvents { schema, events }) => print_events(
+            alloc,
+            &words[schema as usize],
+            schema,
+            &words[events as usize],
+            events,
+            store,
+            out,
+        ),
         None => Status::Usage,
     }
 }

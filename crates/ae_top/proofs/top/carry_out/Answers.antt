@@ -1,10 +1,10 @@
 use Rattle.std.proofs.Common.{◌≡◌, ◌<◌, [], length, Some, ap, sym, ◌∙◌}
 use Rattle.std.proofs.lemmas.List.{get_or_read}
-use Rattle.ae_top.specs.declared.task.Task.TheVariants.{Run, Plain, Print}
+use Rattle.ae_top.specs.declared.task.Task.TheVariants.{Run, Plain, Print, PrintSchema, PrintEvents}
 use Rattle.ae_top.specs.Task.{task_in}
 use Rattle.ae_top.specs.World.{World, port, world}
-use Rattle.ae_top.proofs.KeptTop.{run_carried, plain_carried, print_carried}
-use Rattle.ae_top.proofs.Named.{run_named_word, plain_named_words, print_named_word}
+use Rattle.ae_top.proofs.KeptTop.{run_carried, plain_carried, print_carried, schema_carried, events_carried}
+use Rattle.ae_top.proofs.Named.{run_named_word, plain_named_words, print_named_word, schema_named_word, events_named_words}
 use Rattle.ae_top.proofs.top.carry_out.Goals as goal
 
 pub bounds-words-prog : goal.bounds-words-prog
@@ -71,3 +71,51 @@ returns-in-Some-Print-clause-carries g c =
     (port (g.O.Sink.told c.print.new.out) (g.O.Sink.faults c.print.new.out)) (port (g.P.Sink.told c.args.err.now) (g.P.Sink.faults c.args.err.now)) in
     print_carried words task.kind task.file c.index-words-file.result c.print.result before now is named
     (c.print.ensures.keeps before.streams.input before.streams.err)
+
+pub bounds-words-file-in-Some-PrintSchema : goal.bounds-words-file-in-Some-PrintSchema
+bounds-words-file-in-Some-PrintSchema g c =
+    let is : task_in c.args.words.now ≡ Some (PrintSchema c.in-Some-PrintSchema.file) = sym c.read_task.ensures ∙ c.in-Some-PrintSchema.is ∙ ap Some c.in-Some-PrintSchema.field-0-is in
+    schema_named_word c.args.words.now c.in-Some-PrintSchema.file is
+
+pub returns-in-Some-PrintSchema-clause-carries : goal.returns-in-Some-PrintSchema-clause-carries
+returns-in-Some-PrintSchema-clause-carries g c =
+    let words = c.args.words.now in
+    let task = c.in-Some-PrintSchema in
+    let is : task_in words ≡ Some (PrintSchema task.file) = sym c.read_task.ensures ∙ task.is ∙ ap Some task.field-0-is in
+    let within : task.file < length words = schema_named_word words task.file is in
+    let word = c.index-words-file-in-Some-PrintSchema in
+    let named = get_or_read words task.file word.result within word.is [] in
+    let before : World = world (port (g.S.Store.told c.args.store.now) (g.S.Store.faults c.args.store.now)) (port (g.I.Source.told c.args.input.now) (g.I.Source.faults c.args.input.now))
+    (port (g.O.Sink.told c.args.out.now) (g.O.Sink.faults c.args.out.now)) (port (g.P.Sink.told c.args.err.now) (g.P.Sink.faults c.args.err.now)) in
+    let now : World = world (port (g.S.Store.told c.print_schema.new.store) (g.S.Store.faults c.print_schema.new.store)) (port (g.I.Source.told c.args.input.now) (g.I.Source.faults c.args.input.now))
+    (port (g.O.Sink.told c.print_schema.new.out) (g.O.Sink.faults c.print_schema.new.out)) (port (g.P.Sink.told c.args.err.now) (g.P.Sink.faults c.args.err.now)) in
+    schema_carried words task.file word.result c.print_schema.result before now is named (c.print_schema.ensures.keeps before.streams.input before.streams.err)
+
+pub bounds-words-schema : goal.bounds-words-schema
+bounds-words-schema g c =
+    let task = c.in-Some-PrintEvents in
+    let is : task_in c.args.words.now ≡ Some (PrintEvents task.schema task.events) = sym c.read_task.ensures ∙ task.is ∙ ap Some task.field-0-is in
+    (events_named_words c.args.words.now task.schema task.events is).0
+
+pub bounds-words-events : goal.bounds-words-events
+bounds-words-events g c =
+    let task = c.in-Some-PrintEvents in
+    let is : task_in c.args.words.now ≡ Some (PrintEvents task.schema task.events) = sym c.read_task.ensures ∙ task.is ∙ ap Some task.field-0-is in
+    (events_named_words c.args.words.now task.schema task.events is).1
+
+pub returns-in-Some-PrintEvents-clause-carries : goal.returns-in-Some-PrintEvents-clause-carries
+returns-in-Some-PrintEvents-clause-carries g c =
+    let words = c.args.words.now in
+    let task = c.in-Some-PrintEvents in
+    let is : task_in words ≡ Some (PrintEvents task.schema task.events) = sym c.read_task.ensures ∙ task.is ∙ ap Some task.field-0-is in
+    let within = events_named_words words task.schema task.events is in
+    let schema = c.index-words-schema in
+    let events = c.index-words-events in
+    let schema_named = get_or_read words task.schema schema.result within.0 schema.is [] in
+    let events_named = get_or_read words task.events events.result within.1 events.is [] in
+    let before : World = world (port (g.S.Store.told c.args.store.now) (g.S.Store.faults c.args.store.now)) (port (g.I.Source.told c.args.input.now) (g.I.Source.faults c.args.input.now))
+    (port (g.O.Sink.told c.args.out.now) (g.O.Sink.faults c.args.out.now)) (port (g.P.Sink.told c.args.err.now) (g.P.Sink.faults c.args.err.now)) in
+    let now : World = world (port (g.S.Store.told c.print_events.new.store) (g.S.Store.faults c.print_events.new.store)) (port (g.I.Source.told c.args.input.now) (g.I.Source.faults c.args.input.now))
+    (port (g.O.Sink.told c.print_events.new.out) (g.O.Sink.faults c.print_events.new.out)) (port (g.P.Sink.told c.args.err.now) (g.P.Sink.faults c.args.err.now)) in
+    events_carried words task.schema task.events schema.result events.result c.print_events.result before now is schema_named events_named
+    (c.print_events.ensures.keeps before.streams.input before.streams.err)

@@ -1,0 +1,85 @@
+-- What comes of a command that works on a schema.
+use Rattle.std.proofs.Common.{◌≡◌, ℕ, ◌<◌, ◌≤◌, List, Option, None, Some, Result, Ok, Err, true, length, sym, ◌∙◌, subst, arith}
+use Rattle.std.proofs.lemmas.Bool.Decides.{nat_tests}
+use Rattle.std.specs.Prelude.{IfErr, nat_lt}
+use Rattle.ae_ports.specs.Files.{Files, HasBytes, SameFiles}
+use Rattle.schema_form.specs.declared.fault.SchemaFault.{SchemaFault}
+use Rattle.schema_form.specs.declared.fault.SchemaFault.TheVariants.{NotSchema, BadEntry, NotAForest, TooLarge}
+use Rattle.schema_form.specs.declared.limits.TheConstants.{SCHEMA_LIMIT}
+use Rattle.schema_form.specs.Refusal.{form_refusal}
+use Rattle.schema_form.specs.SchemaParts.{SchemaParts}
+use Rattle.schema_form.specs.Spells.{RefusedBy, by_form}
+use Rattle.ae_top.specs.declared.inputs.NotRead.{NotRead}
+use Rattle.ae_top.specs.declared.schema_file.NoSchema.{NoSchema}
+use Rattle.ae_top.specs.declared.status.Status.{Status}
+use Rattle.ae_top.specs.Inner.Command.{Carries}
+use Rattle.ae_top.specs.Inputs.{IsAbsent, IsNotRead}
+use Rattle.ae_top.specs.SchemaFile.{HasNoSchema, IsNoSchema, IsSchemaIn, LacksSchema, no_schema_by, status_without_schema}
+use Rattle.ae_top.specs.World.{World, Blames, BlamesDevices}
+use Rattle.ae_top.proofs.Blamed.{no_schema_blames, schema_unused}
+
+-- a file that is longer than a schema may be is refused for it
+refused_long : (bytes : List ℕ) → SCHEMA_LIMIT < length bytes → form_refusal bytes ≡ Some TooLarge
+refused_long bytes long =
+    let over : nat_lt SCHEMA_LIMIT (length bytes) ≡ true = grind (arith, nat_tests) in
+    cc
+
+pub too_long_schema : (told : Option Files) (name : List ℕ) → IsNotRead told name SCHEMA_LIMIT NotRead.TooLong → LacksSchema told name (NoSchema.Bad TooLarge)
+too_long_schema told name is = (is.0, is.1, by_form (refused_long is.0 is.2))
+
+-- why bytes give no schema, by the fault of reading them
+pub none_by : (bytes : List ℕ) (fault : SchemaFault) → length bytes ≤ SCHEMA_LIMIT → ((fault ≡ SchemaFault.NoMemory → ⊥) → RefusedBy bytes fault) → IsNoSchema bytes (no_schema_by fault)
+none_by bytes NotSchema small refused = refused (λ is. absurd (cc is))
+none_by bytes (BadEntry offset) small refused = refused (λ is. absurd (cc is))
+none_by bytes (NotAForest edge) small refused = refused (λ is. absurd (cc is))
+none_by bytes TooLarge small refused = refused (λ is. absurd (cc is))
+none_by bytes SchemaFault.NoMemory small refused = small
+
+-- why there is none in a file with these bytes
+lacks_by : (told : Option Files) (name bytes : List ℕ) (why : NoSchema) → HasBytes told name bytes → IsNoSchema bytes why → LacksSchema told name why
+lacks_by told name bytes NoSchema.Missing has none = absurd none
+lacks_by told name bytes NoSchema.StoreFault has none = tt
+lacks_by told name bytes NoSchema.NoMemory has none = (bytes, has, none)
+lacks_by told name bytes (NoSchema.Bad fault) has none = (bytes, has, none)
+
+pub lacks_in : {T : Type 0} (result : Result T NoSchema) (told : Option Files) (name bytes : List ℕ) → HasBytes told name bytes → IfErr result (IsNoSchema bytes) → IfErr result (LacksSchema told name)
+lacks_in (Ok schema) told name bytes has none = tt
+lacks_in (Err why) told name bytes has none = lacks_by told name bytes why has none
+
+-- what a store has that was there before
+has_before : (before now : Option Files) (name bytes : List ℕ) → SameFiles before now → HasBytes now name bytes → HasBytes before name bytes
+has_before None None name bytes same has = tt
+has_before None (Some now) name bytes same has = absurd same
+has_before (Some before) None name bytes same has = absurd same
+has_before (Some before) (Some now) name bytes same has = sym (same name) ∙ has
+
+absent_before : (before now : Option Files) (name : List ℕ) → SameFiles before now → IsAbsent now name → IsAbsent before name
+absent_before None None name same gone = tt
+absent_before None (Some now) name same gone = absurd same
+absent_before (Some before) None name same gone = absurd same
+absent_before (Some before) (Some now) name same gone = sym (same name) ∙ gone
+
+lacks_before : (before now : Option Files) (name : List ℕ) (why : NoSchema) → SameFiles before now → LacksSchema now name why → LacksSchema before name why
+lacks_before before now name NoSchema.Missing same lacks = absent_before before now name same lacks
+lacks_before before now name NoSchema.StoreFault same lacks = tt
+lacks_before before now name NoSchema.NoMemory same lacks = (lacks.0, has_before before now name lacks.0 same lacks.1, lacks.2)
+lacks_before before now name (NoSchema.Bad fault) same lacks = (lacks.0, has_before before now name lacks.0 same lacks.1, lacks.2)
+
+pub lacked_before : {T : Type 0} (result : Result T NoSchema) (before now : Option Files) (name : List ℕ) → SameFiles before now → IfErr result (LacksSchema now name) → IfErr result (LacksSchema before name)
+lacked_before (Ok schema) before now name same lacks = tt
+lacked_before (Err why) before now name same lacks = lacks_before before now name why same lacks
+
+pub schema_before : (before now : Option Files) (name : List ℕ) (schema : SchemaParts) → SameFiles before now → IsSchemaIn now name schema → IsSchemaIn before name schema
+schema_before before now name schema same has = (has.0, has_before before now name has.0 same has.1, has.2)
+
+-- there is no schema to work on
+pub carries_no_schema : (word : ℕ) (name : List ℕ) (why : NoSchema) (status : Status) (before now : World) → status ≡ status_without_schema why word
+    → LacksSchema before.store.told name why → now.streams ≡ before.streams → SameFiles before.store.told now.store.told
+    → Blames (why ≡ NoSchema.StoreFault) before.store.faults now.store.faults
+    → (promise : Type 0) → (HasNoSchema word name status before now → promise) → Carries promise status before now
+carries_no_schema word name why status before now is lacks same files store promise keeps =
+    record {
+      keeps = keeps (record { why = why; lacks = lacks; says = is; streams = same; files = files });
+      blames = subst (λ s. BlamesDevices s before now) (sym is) (no_schema_blames why word before now same store);
+      used = λ usage. schema_unused why word (sym is ∙ usage);
+    }
