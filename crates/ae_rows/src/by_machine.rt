@@ -6,6 +6,7 @@ ghost use Rattle.std.specs.Prelude.{◌≡◌, None, IfOk, IfSome};
 use crate::counting::Counts;
 use crate::kept_items::KeptItems;
 use crate::machine_ports::{Ports, answer_line};
+use crate::recorded::is_recorded;
 use crate::registers::registers_text;
 use crate::row::{Kind, Row};
 use ae_nums::item_line;
@@ -29,7 +30,8 @@ pub fn judge_machine(rt: &HostRuntime, row: &Row) -> io::Result<bool> {
 }
 
 fn judge_image(rt: &HostRuntime, row: &Row, image: &Image) -> io::Result<bool> {
-    let run_is = told(rt, row, "run", runs(rt.alloc(), row, image)?)?;
+    let recorded_is = told(rt, row, "recorded", is_recorded(rt.alloc(), row, image)?)?;
+    let run_is = told(rt, row, "run", runs(rt.alloc(), row, image)?)? && recorded_is;
     if !row.has(Kind::Leaves) {
         return Ok(run_is);
     }

@@ -81,7 +81,7 @@ pub fn devices_of<'a>(
 }
 
 /// The words of a command.
-fn words_of(alloc: Global, command: &[Vec<u8>]) -> Result<Vec<Word>, AllocError> {
+pub fn words_of(alloc: Global, command: &[Vec<u8>]) -> Result<Vec<Word>, AllocError> {
     let mut words = Vec::new(alloc);
     for word in command {
         words.push(Word::from_bytes(alloc, word)?)?;

@@ -2,6 +2,7 @@
 use crate::counting::{Counts, Device};
 use crate::devices::{Devices, code_of, devices_of, left_of, status_of};
 use crate::row::{Call, Kind, Row};
+use crate::said::{Outcome, outcome_of};
 use crate::trial::Trial;
 use ae_ports::Word;
 use std::alloc::Global;
@@ -10,6 +11,24 @@ use std::io;
 
 /// Makes a call, prints a line for each thing that isn't as the row says, and answers whether there is none.
 pub fn judge(rt: &HostRuntime, row: &Row, trial: &Trial) -> io::Result<bool> {
+    match row.said {
+        Some(size) => judge_said(rt, row, trial, size),
+        None => judge_kept(rt, row, trial),
+    }
+}
+
+/// Judges a call over a store that says a size and keeps nothing.
+fn judge_said(rt: &HostRuntime, row: &Row, trial: &Trial, size: u64) -> io::Result<bool> {
+    let counts = Counts::new();
+    let Outcome { code, out, err } = outcome_of(rt.alloc(), row, trial, size, &counts)?;
+    let code_is = has_code(rt, row, trial, code)?;
+    let counts_are = has_counts(rt, row, trial, &counts)?;
+    let streams_are = has_streams(rt, row, trial, &out, &err)?;
+    Ok(code_is && counts_are && streams_are)
+}
+
+/// Judges a call over a store in memory.
+fn judge_kept(rt: &HostRuntime, row: &Row, trial: &Trial) -> io::Result<bool> {
     let counts = Counts::new();
     let mut devices = devices_of(rt.alloc(), row, trial, &counts)?;
     let code = code_of(rt.alloc(), trial.command, &mut devices)?;
@@ -23,7 +42,9 @@ pub fn judge(rt: &HostRuntime, row: &Row, trial: &Trial) -> io::Result<bool> {
 /// Whether the devices have what the row says.
 fn has_left(rt: &HostRuntime, row: &Row, trial: &Trial, devices: &mut Devices) -> io::Result<bool> {
     let rest = has_rest(rt, row, trial, devices)?;
-    let streams = has_streams(rt, row, trial, devices)?;
+    let out = devices.out.inner().taken();
+    let err = devices.err.inner().taken();
+    let streams = has_streams(rt, row, trial, out, err)?;
     let files = has_files(rt, row, trial, devices)?;
     let memory = has_memory(rt, row, trial, devices)?;
     Ok(rest && streams && files && memory)
@@ -98,10 +119,14 @@ fn name_of(device: Device) -> &'static str {
 }
 
 /// Whether both outputs took what the row says.
-fn has_streams(rt: &HostRuntime, row: &Row, trial: &Trial, devices: &Devices) -> io::Result<bool> {
-    let out = devices.out.inner().taken();
+fn has_streams(
+    rt: &HostRuntime,
+    row: &Row,
+    trial: &Trial,
+    out: &[u8],
+    err: &[u8],
+) -> io::Result<bool> {
     let out_is = has_behind(rt, row, trial, "out", out, Kind::FrontOfOut, Kind::Out)?;
-    let err = devices.err.inner().taken();
     let err_is = has_behind(rt, row, trial, "err", err, Kind::FrontOfErr, Kind::Err)?;
     Ok(out_is && err_is)
 }

@@ -45,6 +45,22 @@ impl<'a> Ports<'a> {
         })
     }
 
+    /// The ports of a row, of whose sink of events this call fails too.
+    pub fn failing_at(
+        alloc: Global,
+        row: &Row,
+        counts: &'a Counts,
+        call: u64,
+    ) -> Result<Ports<'a>, AllocError> {
+        let ports = Ports::new(alloc, row, counts)?;
+        let mut calls = row.failing(alloc, Device::Events)?;
+        calls.push(call)?;
+        Ok(Ports {
+            events: Counted::new(MemorySink::new(alloc, calls), counts, Device::Events),
+            ..ports
+        })
+    }
+
     /// What the first output, the second and the sink of events took.
     pub fn taken(&self) -> [&[u8]; 3] {
         [
@@ -63,6 +79,16 @@ impl<'a> Ports<'a> {
             &mut self.err,
             &mut self.events,
         )
+    }
+
+    /// Gives the header of a machine's event file.
+    pub fn head(&mut self, machine: &mut Machine) -> Result<(), MachineFault> {
+        machine.head(&mut self.events)
+    }
+
+    /// Gives what is left of a machine's events.
+    pub fn tail(&mut self, machine: &mut Machine) -> Result<(), MachineFault> {
+        machine.tail(&mut self.events)
     }
 
     /// Takes a step of a machine.

@@ -12,8 +12,10 @@ mod judging;
 mod kept_items;
 mod machine_ports;
 mod reading;
+mod recorded;
 mod registers;
 mod row;
+mod said;
 mod tables_text;
 mod trial;
 

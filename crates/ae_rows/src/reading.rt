@@ -17,6 +17,7 @@ pub fn take_line(alloc: Global, row: &mut Row, line: &str) -> io::Result<()> {
         "words" => take_command(alloc, row, rest),
         "code" => take_code(row, rest),
         "status" => take_status(alloc, row, rest),
+        "said" => take_said(row, rest),
         "fails" | "calls" => take_calls(alloc, row, key, rest),
         "machine" => take_machine(row, rest),
         "none" => take_none(alloc, row, rest),
@@ -37,6 +38,7 @@ fn take_bytes(alloc: Global, row: &mut Row, key: &str, rest: &str) -> io::Result
         "out" => take_text(alloc, row, Kind::Out, rest),
         "err" => take_text(alloc, row, Kind::Err, rest),
         "events" => take_text(alloc, row, Kind::Events, rest),
+        "recorded" => take_recorded(alloc, row, rest),
         "registers" => take_text(alloc, row, Kind::Registers, rest),
         "tables" => take_text(alloc, row, Kind::Tables, rest),
         "image" => take_text(alloc, row, Kind::Image, rest),
@@ -69,6 +71,11 @@ fn take_code(row: &mut Row, rest: &str) -> io::Result<()> {
 
 fn take_status(alloc: Global, row: &mut Row, rest: &str) -> io::Result<()> {
     row.status = String::from_str(alloc, rest)?;
+    Ok(())
+}
+
+fn take_said(row: &mut Row, rest: &str) -> io::Result<()> {
+    row.said = Some(number(rest)?);
     Ok(())
 }
 
@@ -148,6 +155,13 @@ fn take_file(alloc: Global, row: &mut Row, kind: Kind, text: &str) -> io::Result
     let (form, rest) = rest.split_once(' ').unwrap_or((rest, ""));
     let bytes = file_bytes(alloc, form, rest)?;
     push_text(row, kind, plain_bytes(alloc, name)?, bytes)
+}
+
+/// The form and bytes of events. Without a form there are none.
+fn take_recorded(alloc: Global, row: &mut Row, text: &str) -> io::Result<()> {
+    let (form, rest) = text.split_once(' ').unwrap_or(("text", ""));
+    let bytes = file_bytes(alloc, form, rest)?;
+    push_text(row, Kind::Recorded, Vec::new(alloc), bytes)
 }
 
 /// `front out TEXT`, `front err TEXT`, or `front NAME` and the form and bytes of a file.

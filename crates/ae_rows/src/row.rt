@@ -27,6 +27,8 @@ pub enum Kind {
     FrontOfErr,
     /// What the sink of a machine's events takes.
     Events,
+    /// The event bytes of a machine's run, with what comes before it and behind it.
+    Recorded,
     /// The pc and the registers of a machine after its run.
     Registers,
     /// The lines of the file's tables.
@@ -66,6 +68,8 @@ pub struct Row {
     pub code: u8,
     /// The status by name, where it is said.
     pub status: String,
+    /// The size that the store says of each file, where the files are ones that it doesn't keep.
+    pub said: Option<u64>,
     /// The calls of devices that fail.
     pub fails: Vec<Call>,
     /// The calls of devices of which one fails, each in turn.
@@ -95,6 +99,7 @@ impl Row {
             commands: Vec::new(alloc),
             code: 0,
             status: String::new(alloc),
+            said: None,
             fails: Vec::new(alloc),
             each: Vec::new(alloc),
             calls: Vec::new(alloc),

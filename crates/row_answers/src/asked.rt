@@ -8,31 +8,49 @@ use crate::lent::lent_answer;
 use crate::memory::memory_answer;
 use crate::needs::{mask_answer, slice_answer};
 use crate::numbers::number_answer;
+use crate::schema::schema_answer;
 use crate::telling::split;
 use crate::writing::writer_answer;
+use flow_graph::Graph;
 use row_form::not_understood;
 use rv_code::Image;
 use rv_memory::Memory;
 use std::alloc::{AllocError, Global};
 use std::io;
 
-/// What is asked: the image of an executable, and its memory, which questions may change.
+/// What is asked: the image of an executable, its flow graph, and its memory, which questions may change.
 #[derive(Drop)]
 pub struct Asked {
-    image: Option<Image>,
-    memory: Option<Memory>,
+    file: Option<File>,
+}
+
+#[derive(Drop)]
+struct File {
+    image: Image,
+    graph: Graph,
+    memory: Memory,
+}
+
+/// All that is asked of an image.
+fn file_of(alloc: Global, image: Image) -> Result<File, AllocError> {
+    let graph = Graph::build(alloc, &image)?;
+    let memory = Memory::load(alloc, &image)?;
+    Ok(File {
+        image,
+        graph,
+        memory,
+    })
 }
 
 impl Asked {
-    /// The image and the memory of these bytes, if they are an executable that is accepted. The only error is want of
+    /// The image, the graph and the memory of these bytes, if they are an executable that is accepted. The only error is want of
     /// memory.
     pub fn new(alloc: Global, bytes: &[u8]) -> Result<Asked, AllocError> {
-        let image = image_of(alloc, bytes);
-        let memory = match &image {
-            Some(image) => Some(Memory::load(alloc, image)?),
+        let file = match image_of(alloc, bytes) {
+            Some(image) => Some(file_of(alloc, image)?),
             None => None,
         };
-        Ok(Asked { image, memory })
+        Ok(Asked { file })
     }
 
     /// The answer to a question, which begins with what is asked.
@@ -55,12 +73,16 @@ impl Asked {
 
     /// The answer to a question of the file.
     fn answer_of_file(&mut self, alloc: Global, what: &str, rest: &str) -> io::Result<Vec<u8>> {
-        match (&self.image, &mut self.memory) {
-            (Some(image), _) if what == "image" => image_answer(alloc, image, rest),
-            (Some(image), _) if what == "graph" => graph_answer(alloc, image, rest),
-            (Some(image), _) if what == "mask" => mask_answer(alloc, image, rest),
-            (Some(image), _) if what == "slice" => slice_answer(alloc, image, rest),
-            (_, Some(memory)) if what == "memory" => memory_answer(alloc, memory, rest),
+        let Some(file) = &mut self.file else {
+            return Err(not_understood());
+        };
+        match what {
+            "image" => image_answer(alloc, &file.image, rest),
+            "graph" => graph_answer(alloc, &file.graph, rest),
+            "mask" => mask_answer(alloc, &file.graph, rest),
+            "slice" => slice_answer(alloc, &file.graph, rest),
+            "schema" => schema_answer(alloc, &file.image),
+            "memory" => memory_answer(alloc, &mut file.memory, rest),
             _ => Err(not_understood()),
         }
     }

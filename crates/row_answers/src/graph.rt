@@ -1,24 +1,25 @@
 //! The flow graph of an executable: blocks, depths, weights, witness edges and their certificates.
+ghost use Rattle.std.specs.Prelude.{◌≡◌, ◌<◌, length};
+ghost use Rattle.flow_graph.specs.Edges.{edges_of};
+
 use crate::telling::{add, bytes, decimal_or_nothing, split, words};
 use flow_graph::Graph;
 use flow_tree::{Forest, Weights, WorkRow, certificate, check_forest, depth, witnesses};
 use row_form::not_understood;
-use rv_code::Image;
 use std::alloc::{AllocError, Global};
 use std::io;
 
-/// The answer to a question of the flow graph of an image.
-pub fn graph_answer(alloc: Global, image: &Image, question: &str) -> io::Result<Vec<u8>> {
-    let graph = Graph::build(alloc, image)?;
+/// The answer to a question of a flow graph.
+pub fn graph_answer(alloc: Global, graph: &Graph, question: &str) -> io::Result<Vec<u8>> {
     let (key, rest) = split(question);
     let numbers = words(alloc, rest)?;
     match key {
-        "block" => blocks_at(alloc, &graph, &numbers),
-        "depth" => depths_of(alloc, &graph, &numbers),
-        "weight" => weights_of(alloc, &graph, &numbers),
-        "witnesses" => marks_by(alloc, &graph, numbers),
-        "forest" => is_forest(alloc, &graph, &numbers),
-        "certificate" => path_of(alloc, &graph, &numbers),
+        "block" => blocks_at(alloc, graph, &numbers),
+        "depth" => depths_of(alloc, graph, &numbers),
+        "weight" => weights_of(alloc, graph, &numbers),
+        "witnesses" => marks_by(alloc, graph, numbers),
+        "forest" => is_forest(alloc, graph, &numbers),
+        "certificate" => path_of(alloc, graph, &numbers),
         _ => Err(not_understood()),
     }
 }
@@ -74,16 +75,22 @@ fn list_text(alloc: Global, numbers: &[u32]) -> io::Result<Vec<u8>> {
 /// The numbers of the edges that are witnesses under this table of weights; of a table that doesn't fit, the table that comes back.
 fn marks_by(alloc: Global, graph: &Graph, table: Vec<u32>) -> io::Result<Vec<u8>> {
     match Weights::given(graph, table) {
-        Ok(weights) => {
-            let forest = witnesses(alloc, graph, &weights)?;
-            list_text(alloc, &marked(alloc, &forest)?)
-        }
-        Err(back) => {
-            let mut answer = bytes(alloc, "back")?;
-            add(&mut answer, &list_text(alloc, &back)?)?;
-            Ok(answer)
-        }
+        Ok(weights) => marks_under(alloc, graph, &weights),
+        Err(back) => back_text(alloc, &back),
     }
+}
+
+fn back_text(alloc: Global, back: &[u32]) -> io::Result<Vec<u8>> {
+    let mut answer = bytes(alloc, "back")?;
+    add(&mut answer, &list_text(alloc, back)?)?;
+    Ok(answer)
+}
+
+fn marks_under(alloc: Global, graph: &Graph, weights: &Weights) -> io::Result<Vec<u8>>
+    requires { length weights.now ≡ length (edges_of graph.now) }
+{
+    let forest = witnesses(alloc, graph, weights)?;
+    list_text(alloc, &marked(alloc, &forest)?)
 }
 
 /// The numbers of the marked edges.
@@ -105,15 +112,24 @@ fn is_forest(alloc: Global, graph: &Graph, digits: &[u32]) -> io::Result<Vec<u8>
     for digit in digits {
         marks.push(*digit == 1)?;
     }
-    let Ok(blocks) = u32::try_from(graph.blocks().len()) else {
-        return Err(not_understood());
-    };
     if marks.len() != graph.edges().len() {
         return Err(not_understood());
     }
+    bytes(alloc, checked(alloc, graph, &marks)?)
+}
+
+fn checked(alloc: Global, graph: &Graph, marks: &[bool]) -> io::Result<&'static str>
+    requires { length marks.now ≡ length (edges_of graph.now) }
+{
+    let Ok(blocks) = u32::try_from(graph.blocks().len()) else {
+        return Err(not_understood());
+    };
     let mut row = WorkRow::new(alloc, blocks)?;
-    let is = check_forest(graph, &marks, &mut row);
-    bytes(alloc, if is { "yes" } else { "no" })
+    Ok(if check_forest(graph, marks, &mut row) {
+        "yes"
+    } else {
+        "no"
+    })
 }
 
 /// The certificate of an edge, whose number comes first, under a table of weights.
@@ -121,12 +137,19 @@ fn path_of(alloc: Global, graph: &Graph, numbers: &[u32]) -> io::Result<Vec<u8>>
     let [edge, table @ ..] = numbers else {
         return Err(not_understood());
     };
-    let Ok(weights) = Weights::given(graph, table.to_vec(alloc)?) else {
-        return Err(not_understood());
-    };
     if *edge as usize >= graph.edges().len() {
         return Err(not_understood());
     }
-    let forest = witnesses(alloc, graph, &weights)?;
-    list_text(alloc, &certificate(alloc, graph, &forest, *edge)?)
+    match Weights::given(graph, table.to_vec(alloc)?) {
+        Ok(weights) => path_under(alloc, graph, &weights, *edge),
+        Err(_) => Err(not_understood()),
+    }
+}
+
+fn path_under(alloc: Global, graph: &Graph, weights: &Weights, edge: u32) -> io::Result<Vec<u8>>
+    requires weights { length weights.now ≡ length (edges_of graph.now) }
+    requires edge { edge < length (edges_of graph.now) }
+{
+    let forest = witnesses(alloc, graph, weights)?;
+    list_text(alloc, &certificate(alloc, graph, &forest, edge)?)
 }

@@ -16,6 +16,7 @@ mod lent;
 mod memory;
 mod needs;
 mod numbers;
+mod schema;
 mod telling;
 mod writing;
 

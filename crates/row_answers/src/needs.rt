@@ -4,14 +4,12 @@ use flow_graph::Graph;
 use need_sets::Needs;
 use reach_slice::{Reaching, SliceFault};
 use row_form::{not_understood, word};
-use rv_code::Image;
 use std::alloc::Global;
 use std::io;
 
 /// The masks of the code words at these addresses.
-pub fn mask_answer(alloc: Global, image: &Image, addresses: &str) -> io::Result<Vec<u8>> {
-    let graph = Graph::build(alloc, image)?;
-    let needs = Needs::build(alloc, &graph)?;
+pub fn mask_answer(alloc: Global, graph: &Graph, addresses: &str) -> io::Result<Vec<u8>> {
+    let needs = Needs::build(alloc, graph)?;
     masks_at(alloc, &needs, addresses)
 }
 
@@ -24,10 +22,10 @@ fn masks_at(alloc: Global, needs: &Needs, addresses: &str) -> io::Result<Vec<u8>
 }
 
 /// The words of the slice of the load or store at an address, or that none stands there.
-pub fn slice_answer(alloc: Global, image: &Image, address: &str) -> io::Result<Vec<u8>> {
-    let graph = Graph::build(alloc, image)?;
-    let reaching = Reaching::build(alloc, &graph)?;
-    slice_at(alloc, &reaching, word(address)?)
+pub fn slice_answer(alloc: Global, graph: &Graph, address: &str) -> io::Result<Vec<u8>> {
+    let access = word(address)?;
+    let reaching = Reaching::build(alloc, graph)?;
+    slice_at(alloc, &reaching, access)
 }
 
 fn slice_at(alloc: Global, reaching: &Reaching, access: u32) -> io::Result<Vec<u8>> {

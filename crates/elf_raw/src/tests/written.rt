@@ -1,9 +1,9 @@
-//! Files that are written, byte by byte, and read back.
+//! Files that are written, byte by byte.
 ghost use Rattle.std.specs.Prelude.{◌≡◌};
 
 use super::{TABLES, THREE_WORDS, bytes_of};
 use crate::{
-    Piece, RawElf, RawHeader, RawRelocation, RawSection, RawSegment, RawSymbol, read_raw, write_raw,
+    Piece, RawElf, RawHeader, RawRelocation, RawSection, RawSegment, RawSymbol, write_raw,
 };
 use ae_nums::Span64;
 use rv_code::ListOf;
@@ -106,15 +106,6 @@ fn writes_three_words(rt: HostRuntime) -> Result<(), Fail> {
     let written = write_three_words(alloc)?;
     let want = bytes_of(alloc, &THREE_WORDS)?;
     assert_eq!(rt; written.as_slice(), want.as_slice());
-    assert!(rt; written.len() < 4096);
-    let read = read_raw(alloc, &written);
-    assert!(rt; read.is_ok());
-    let Ok(raw) = read else {
-        return Ok(());
-    };
-    assert_eq!(rt; raw.header, HEADER);
-    assert_eq!(rt; raw.segments.as_slice(), [CODE, EMPTY].as_slice());
-    assert_eq!(rt; raw.sections.as_slice(), [NULL, TEXT].as_slice());
     Ok(())
 }
 
