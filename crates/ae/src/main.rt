@@ -1,23 +1,12 @@
-//! The program `ae`: the devices of the real system, and the call that they are handed to.
+//! The program `ae`: the devices of the real system are handed to the top call.
 #![tactic(auto)]
 
-mod faults;
-mod file_store;
-mod open_files;
-mod retry;
-mod std_sink;
-mod std_source;
-#[cfg(test)]
-mod tests;
-
+use ae_devices::{FileStore, StdSink, StdSource};
 use ae_ports::Word;
 use ae_top::exit_code;
-use file_store::FileStore;
 use std::alloc::AllocError;
 use std::process::ExitCode;
 use std::{env, io};
-use std_sink::StdSink;
-use std_source::StdSource;
 
 /// The exit code where there is no memory.
 const NO_MEMORY: u8 = 70;

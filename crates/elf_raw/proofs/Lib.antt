@@ -17,6 +17,3 @@ mod ReadBack
 mod EntriesBack
 mod WordsBack
 mod WrittenFile
-mod Shown
-mod ThreeWords
-mod TablesFile

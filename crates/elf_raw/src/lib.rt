@@ -24,8 +24,6 @@ mod segment;
 mod symbol;
 mod symbols;
 mod tables;
-#[cfg(test)]
-mod tests;
 mod writing;
 
 pub use entries::{relocation_table, string_table, symbol_table};

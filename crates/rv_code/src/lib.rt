@@ -18,8 +18,6 @@ mod lists;
 mod parts;
 mod places;
 mod results;
-#[cfg(test)]
-mod tests;
 mod ways;
 
 pub use class::Class;
