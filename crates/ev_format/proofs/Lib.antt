@@ -1,3 +1,5 @@
+pub mod LawsOfReadings
+mod SteadilyRead
 mod Words
 mod Consumed
 mod Filled

@@ -1,6 +1,6 @@
 -- What the bytes of an event file say to a program of some shape: the whole records at their front, each with its offset, and why
 -- reading stopped. This project's own.
-use Rattle.std.specs.Prelude.{◌≡◌, ◌≢◌, ◌⊎◌, ℕ, ◌+◌, ◌-◌, ◌%◌, ◌^◌, ◌<◌, ◌≤◌, min, false, List, [], ◌∷◌, ◌++◌, length, take, Option, Some, None}
+use Rattle.std.specs.Prelude.{◌≡◌, ◌≢◌, ◌⊎◌, ℕ, ⊤, ◌+◌, ◌-◌, ◌%◌, ◌^◌, ◌<◌, ◌≤◌, min, false, List, [], ◌∷◌, ◌++◌, length, take, Option, Some, None}
 use Rattle.rv_code.specs.Numbers.{IsWord, bytes_of}
 use Rattle.ev_format.specs.declared.kind.RecordKind.{RecordKind}
 use Rattle.ev_format.specs.declared.kind.RecordKind.TheVariants as kinds
@@ -99,3 +99,26 @@ Reading shape place bytes ((offset, rec) ∷ records) stop =
     × MayBeNext shape place offset rec
     × (bytes ≡ header_before shape place ++ record_bytes rec ++ rest)
     × Reading shape (place_behind offset rec) rest records stop
+
+-- from a place on these records stand at the front of the bytes, whatever is read behind them
+abbrev pub BeginsWith : ShapeView → Place → List ℕ → List (ℕ × Record) → Type 0
+BeginsWith shape place bytes [] = ⊤
+BeginsWith shape place bytes ((offset, rec) ∷ records) =
+    (rest : List ℕ)
+    × MayBeNext shape place offset rec
+    × (bytes ≡ header_before shape place ++ record_bytes rec ++ rest)
+    × BeginsWith shape (place_behind offset rec) rest records
+
+-- a record was read from these bytes, with its offset, and those bytes are left
+pub record ReadsOne (shape : ShapeView) (place : Place) (bytes left : List ℕ) (placed : ℕ × Record) : Type 0 where
+  pub next : MayBeNext shape place placed.0 placed.1
+  pub taken : bytes ≡ header_before shape place ++ record_bytes placed.1 ++ left
+
+-- these records were read, from one place to another
+abbrev pub ReadsTo : ShapeView → Place → List ℕ → List (ℕ × Record) → (now : Place) → (left : List ℕ) → Type 0
+ReadsTo shape place bytes [] now left = (now ≡ place) × (left ≡ bytes)
+ReadsTo shape place bytes ((offset, rec) ∷ records) now left =
+    (rest : List ℕ)
+    × MayBeNext shape place offset rec
+    × (bytes ≡ header_before shape place ++ record_bytes rec ++ rest)
+    × ReadsTo shape (place_behind offset rec) rest records now left

@@ -1,10 +1,10 @@
 -- The shape of a program's event files: what their header names, and which records may stand in them. This project's own.
-use Rattle.std.specs.Prelude.{◌≡◌, ℕ, ◌%◌, Bool, true, false, ◌==◌, ◌||◌, ⊤, List, ◌∷◌, ◌++◌, length, Option, IfSome}
+use Rattle.std.specs.Prelude.{◌≡◌, ℕ, ◌%◌, Bool, true, false, ◌==◌, ◌||◌, ⊤, List, [], length, Option, IfSome}
 use Rattle.std.specs.List.{AllByRecursion}
 use Rattle.std.specs.Option.{option_map_or}
 use Rattle.ae_nums.specs.EventHeader.{event_header}
 use Rattle.ae_nums.specs.Registers.{registers_of}
-use Rattle.rv_code.specs.Numbers.{IsWord, bytes_of}
+use Rattle.rv_code.specs.Numbers.{IsWord}
 use Rattle.ev_format.specs.declared.kind.RecordKind.{RecordKind}
 use Rattle.ev_format.specs.declared.kind.RecordKind.TheVariants as kinds
 use Rattle.ev_format.specs.declared.record.Record.{Record}
@@ -41,9 +41,13 @@ takes_kind slot at kinds.End = (at == 0) || slot.code
 abbrev pub has_slot : ShapeView → ℕ → RecordKind → Bool
 has_slot shape at kind = takes_kind (shape.slot at) at kind
 
--- how many values a landing has: one for each register that its target needs, none where no code word stands there
+-- the registers that are needed at an address, in rising order; none where no code word stands there
+abbrev pub registers_needed : (needs : Option ℕ) → List ℕ
+registers_needed needs = option_map_or registers_of needs []
+
+-- how many values a landing has: one for each register that its target needs
 abbrev pub value_count : ShapeView → ℕ → ℕ
-value_count shape target = option_map_or (λ mask. length (registers_of mask)) (shape.needs target) 0
+value_count shape target = length (registers_needed (shape.needs target))
 
 -- a landing has as many values as its target needs
 abbrev pub HasValues : ShapeView → Record → Type 0

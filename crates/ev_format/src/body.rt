@@ -73,8 +73,8 @@ fn read_landing<S: Source, H: Shape>(at: u32, shape: &H, source: &mut S) -> Resu
     Ok(Record::Landing { at, target, values })
 }
 
-// how many values a landing at this target has
-fn value_count<H: Shape>(shape: &H, target: u32) -> usize
+/// How many values a landing at this target has: one for each register that is needed there, none where no code word stands there.
+pub fn value_count<H: Shape>(shape: &H, target: u32) -> usize
     ensures count { result ≡ value_count (H.shown shape.now) target }
     ensures few { result ≤ 31 }
 {

@@ -1,8 +1,9 @@
 //! The header of an event file.
-ghost use Rattle.std.specs.Prelude.{◌≡◌, OnOk, IfErr};
+ghost use Rattle.std.specs.Prelude.{◌≡◌, ◌↔◌, IsTrue, OnOk, IfErr};
 ghost use Rattle.ae_ports.specs.Content.{Consumes};
 ghost use Rattle.ev_format.specs.Answers.{IfStopped};
 ghost use Rattle.ev_format.specs.Inner.Filling.{HasRisenBy};
+ghost use Rattle.ev_format.specs.declared.stop.Stop.TheVariants.{OtherProgram};
 ghost use Rattle.ev_format.specs.Reading.{HeaderStops};
 ghost use Rattle.ev_format.specs.Shapes.{shape_header};
 
@@ -27,6 +28,13 @@ pub fn read_header<S: Source, H: Shape>(shape: &H, source: &mut S) -> Result<(),
         return Err(Halt::Stopped(Stop::OtherProgram));
     }
     Ok(())
+}
+
+/// Whether the bytes of an event file begin with a whole header, and it isn't the shape's: they are of another program.
+pub fn are_of_another<H: Shape>(shape: &H, bytes: &[u8]) -> bool
+    ensures { IsTrue result ↔ HeaderStops (H.shown shape.now) bytes.now OtherProgram }
+{
+    bytes.len() >= 16 && bytes[..16] != header_of(shape)[..]
 }
 
 // the header of a shape's event files

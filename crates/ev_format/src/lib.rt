@@ -21,12 +21,13 @@ mod record;
 mod records;
 mod shape;
 mod slot;
+mod steady;
 mod stop;
-#[cfg(test)]
-mod tests;
 mod values;
 
+pub use body::value_count;
 pub use halt::Halt;
+pub use header::are_of_another;
 pub use kind::RecordKind;
 pub use laws::{a_reading_is_the_only_one, records_have_one_spelling, written_records_are_read};
 pub use next::{EventFault, Next};

@@ -1,3 +1,6 @@
+ghost use Rattle.std.specs.Prelude.{◌≡◌};
+ghost use Rattle.ev_format.specs.Spelling.{address_in};
+
 use crate::Values;
 
 /// An event of a run. `at` is the address of a code word, a multiple of 4.
@@ -26,4 +29,17 @@ pub enum Record {
         kind: u32,
         detail: u32,
     },
+}
+
+impl Record {
+    /// The address that the record names.
+    #[inline]
+    pub fn address(&self) -> u32
+        ensures { result ≡ address_in self.now }
+    {
+        match *self {
+            Record::Fall(at) | Record::Taken(at) => at,
+            Record::Value { at, .. } | Record::Landing { at, .. } | Record::End { at, .. } => at,
+        }
+    }
 }
