@@ -40,7 +40,7 @@ below_end extent address is fits =
     let lies : (extent.start ≤ address) × (address < extent.start + 4 * extent.count) × (address % 4 ≡ 0) = grind (arith, nat_tests) in
     omega (arith, lies.1, fits)
 
-code_is_word : (has_note : Bool) (regions : List Region) → AllByRecursion (IsRegion has_note) regions → (ranges : List Range) → AllByRecursion (IsRange regions) ranges → (address : ℕ) → is_code (extents_of ranges) address ≡ true → IsWord address
+pub code_is_word : (has_note : Bool) (regions : List Region) → AllByRecursion (IsRegion has_note) regions → (ranges : List Range) → AllByRecursion (IsRange regions) ranges → (address : ℕ) → is_code (extents_of ranges) address ≡ true → IsWord address
 code_is_word has_note regions all [] are address is = absurd (cc is)
 code_is_word has_note regions all (range ∷ ranges) are address is =
     elim (or_cases (is_word_of (extent_of range) address) (is_code (extents_of ranges) address) is) [

@@ -15,3 +15,5 @@ mod Gone
 mod TwoRegions
 mod Fixed
 mod Quick
+mod FirstCode
+mod CodeKept

@@ -4,14 +4,17 @@ use Rattle.std.specs.List.{AllByRecursion}
 use Rattle.ae_nums.specs.declared.item.Item.{Item}
 use Rattle.rv_code.specs.declared.ending.Ending.{Ending}
 use Rattle.rv_code.specs.declared.image.Image.{Image}
-use Rattle.rv_code.specs.Numbers.{IsByte, IsWord}
+use Rattle.rv_code.specs.declared.image.Range.{Range}
+use Rattle.rv_code.specs.Code.{code_word}
+use Rattle.rv_code.specs.Numbers.{IsByte, IsWord, number_of}
 use Rattle.rv_code.specs.Addresses.{tracer_start}
-use Rattle.rv_memory.specs.Memory.{Cell, Rise, is_mapped, permission_at}
+use Rattle.rv_memory.specs.Memory.{Cell, Rise, span, bytes_at, is_mapped, permission_at}
 use Rattle.rv_memory.specs.Stretches.{memory_of, mapping_of}
 use Rattle.rv_machine.specs.State.{State}
-use Rattle.rv_machine.specs.Step.{Program, program_of, AfterStep, step_of}
+use Rattle.rv_machine.specs.Step.{Program, program_of, AfterStep, fetched, step_of}
 use Rattle.rv_machine.specs.Run.{Run, run, items_from}
 use Rattle.rv_machine.specs.Start.{start_of}
+use Rattle.rv_machine.specs.Clean.{StepsCleanly}
 
 -- a run, and what comes after it where it hasn't ended
 abbrev pub joined : Option Ending → Run → Run → Run
@@ -90,3 +93,21 @@ pub record HasGiven (before after : State) : Type 0 where
 -- what was given stays given
 abbrev pub OutputsGrow : Type 0
 OutputsGrow = (program : Program) (count : ℕ) (s : State) → HasGiven s (run program count s).last
+
+-- memory has the code words as they are in these ranges
+abbrev pub HoldsCode : List Range → List Cell → Type 0
+HoldsCode code memory = (address word : ℕ) → code_word code address ≡ Some word → number_of (bytes_at memory (span address 4)) ≡ word
+
+-- so it is at the start of an image's run
+abbrev pub BeginsWithCode : Image → Type 0
+BeginsWithCode image = (input : List ℕ) → HoldsCode image.code (start_of image input).memory
+
+-- a clean step keeps it so
+abbrev pub CleanStepsKeepCode : Image → Type 0
+CleanStepsKeepCode image =
+    (s : State) → HoldsCode image.code s.memory → StepsCleanly (program_of image) s (fetched (program_of image) s)
+    → AfterStep (step_of (program_of image) s) (λ next. HoldsCode image.code next.memory)
+
+-- and what is fetched then is the image's code word
+abbrev pub FetchesItsCode : Image → Type 0
+FetchesItsCode image = (s : State) → HoldsCode image.code s.memory → fetched (program_of image) s ≡ code_word image.code s.pc

@@ -1,6 +1,6 @@
 //! Laws of steps and runs. Each is the contract of a function that does nothing, or that looks at an image, whose type keeps
 //! what the law rests on.
-ghost use Rattle.rv_machine.specs.Laws.{RunsJoin, ItemsJoin, KeepsTracers, KeepsRegions, BeginsInRanges, KeepsRanges, OutputsGrow};
+ghost use Rattle.rv_machine.specs.Laws.{RunsJoin, ItemsJoin, KeepsTracers, KeepsRegions, BeginsInRanges, KeepsRanges, OutputsGrow, BeginsWithCode, CleanStepsKeepCode, FetchesItsCode};
 
 use rv_code::Image;
 
@@ -42,3 +42,18 @@ pub fn ranges_stay()
 pub fn outputs_grow()
     ensures { OutputsGrow }
 {}
+
+/// At the start of a run of the image, memory has the image's code words.
+pub fn code_begins(image: &Image)
+    ensures { BeginsWithCode image.now }
+{
+    let _ = &image.entry;
+}
+
+/// A clean step keeps the image's code words in memory, and as long as they are there, what is fetched is the image's word.
+pub fn clean_steps_keep_code(image: &Image)
+    ensures steps { CleanStepsKeepCode image.now }
+    ensures fetches { FetchesItsCode image.now }
+{
+    let _ = &image.entry;
+}
