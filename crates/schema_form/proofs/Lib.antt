@@ -1,6 +1,7 @@
 mod Words
 mod Below
 mod LookedUp
+mod Begun
 mod Rows
 mod Heads
 mod Halved
@@ -24,6 +25,7 @@ mod OwnWords
 mod OwnEdges
 mod OwnForest
 mod OwnSchema
+pub mod LawsOfSchemaWords
 mod OwnShape
 mod SameEvents
 mod EffectWords

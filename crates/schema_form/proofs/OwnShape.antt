@@ -1,6 +1,6 @@
 -- The schema of code under marks has the shape of the code under these marks.
 use Rattle.std.proofs.Common.{◌≡◌, inl, inr, ℕ, zero, suc, ◌+◌, ◌*◌, ◌%◌, ◌<◌, ◌≤◌, Bool, true, false, List, [], ◌∷◌, length, get_or, Option, Some, None, is_some, cond, refl, sym, ap, subst, ◌∙◌, arith}
-use Rattle.std.specs.Prelude.{◌↔◌, ◌==◌, IsTrue, nat_lt, position, slice_get}
+use Rattle.std.specs.Prelude.{◌↔◌, ◌==◌, IfSome, IsTrue, nat_lt, position, slice_get}
 use Rattle.std.specs.Int.{bit_at}
 use Rattle.std.specs.List.{Contains, position_or_len}
 use Rattle.std.specs.Option.{option_and_then, option_map, option_map_or}
@@ -28,14 +28,16 @@ use Rattle.flow_graph.specs.Laws.{IsEdge}
 use Rattle.flow_graph.proofs.LawsOfEdges.{edges_join}
 use Rattle.need_sets.specs.Needed.{IsNeeded, IsHard}
 use Rattle.need_sets.specs.Words.{class_at}
-use Rattle.schema_form.specs.declared.flags.TheConstants.{FALL_WITNESS, TAKEN_WITNESS, KEPT}
+use Rattle.schema_form.specs.declared.flags.TheConstants.{KEPT}
 use Rattle.schema_form.specs.declared.word.SchemaWord.{SchemaWord}
-use Rattle.schema_form.specs.CodeShape.{RecordsValue, IsSlotOf, AreNeedsAt, SchemasHaveTheShape}
+use Rattle.ev_format.specs.declared.slot.Slot.{Slot}
+use Rattle.schema_form.specs.CodeShape.{RecordsValue, IsSlotOf, AreNeedsAt, SchemasFindTheirWords, SchemasHaveTheShape, ShapesOfCodeAreShapes}
 use Rattle.schema_form.specs.Flags.{class_in, is_set}
 use Rattle.schema_form.specs.LookUps.{but_x0, first_start, gives_value, is_indirect, schema_word_at, slot_by}
 use Rattle.schema_form.specs.OfImage.{GivesKept, IsRecorded, IsSchemaOf, IsSchemaWordOf}
 use Rattle.schema_form.specs.SchemaParts.{SchemaParts}
-use Rattle.schema_form.proofs.OwnWords.{made_class, made_fall, made_taken, made_kept, never_x0}
+use Rattle.schema_form.proofs.LawsOfSchemaWords.{class_there, class_told, fall_told, taken_told, kept_told}
+use Rattle.schema_form.proofs.OwnWords.{never_x0}
 use Rattle.schema_form.proofs.Rows.{all_at}
 
 -- code words lie at multiples of 4
@@ -167,47 +169,29 @@ module _ (parts : CodeParts) (marks : List Bool) where
 
   -- where one does
   module _ (address : ℕ) (word : SchemaWord) (is : IsSchemaWordOf parts marks address word) where
-    class : Class
-    class = class_of (meaning_of is.value)
-
     inside : is_code (extents_of parts.code) address ≡ true
     inside = sym (is_some-code_word parts.code address) ∙ ap is_some is.there
 
-    class_is : class_at parts.code address ≡ Some (class_of (meaning_of is.value))
-    class_is = ap (λ found. option_map class_of (option_map meaning_of found)) is.there
-
-    class_found : class_in word.flags ≡ Some (class_of (meaning_of is.value))
-    class_found = ap class_in is.flags ∙ made_class _ _ is.fall is.taken is.kept
-
-    fall_found : is_set FALL_WITNESS word.flags ≡ is.fall
-    fall_found = ap (is_set FALL_WITNESS) is.flags ∙ made_fall _ _ is.fall is.taken is.kept
-
-    taken_found : is_set TAKEN_WITNESS word.flags ≡ is.taken
-    taken_found = ap (is_set TAKEN_WITNESS) is.flags ∙ made_taken _ _ is.fall is.taken is.kept
-
-    kept_found : is_set KEPT word.flags ≡ is.kept
-    kept_found = ap (is_set KEPT) is.flags ∙ made_kept _ _ is.fall is.taken is.kept
-
     value_found : option_map_or (gives_value (is_set KEPT word.flags)) (class_in word.flags) false ≡ gives_value is.kept (class_of (meaning_of is.value))
-    value_found = λ i. option_map_or (gives_value (kept_found i)) (class_found i) false
+    value_found = λ i. option_map_or (gives_value ((kept_told parts marks address word is) i)) ((class_told parts marks address word is) i) false
 
     landing_found : option_map_or is_indirect (class_in word.flags) false ≡ is_indirect (class_of (meaning_of is.value))
-    landing_found = ap (λ found. option_map_or is_indirect found false) class_found
+    landing_found = ap (λ found. option_map_or is_indirect found false) (class_told parts marks address word is)
 
     slot_here : IsSlotOf parts marks address (slot_by (Some word))
     slot_here = record {
       code = sym inside;
-      fall = subst (λ t. IsTrue t ↔ IsRecorded parts marks false address) (sym fall_found) is.is_fall;
-      taken = subst (λ t. IsTrue t ↔ IsRecorded parts marks true address) (sym taken_found) is.is_taken;
+      fall = subst (λ t. IsTrue t ↔ IsRecorded parts marks false address) (sym (fall_told parts marks address word is)) is.is_fall;
+      taken = subst (λ t. IsTrue t ↔ IsRecorded parts marks true address) (sym (taken_told parts marks address word is)) is.is_taken;
       value =
           subst (λ t. IsTrue t ↔ RecordsValue parts.code address) (sym value_found) (
-            value_records parts.code address _ is.kept class_is is.is_kept,
-            records_value parts.code address _ is.kept class_is is.is_kept,
+            value_records parts.code address _ is.kept (class_there parts marks address word is) is.is_kept,
+            records_value parts.code address _ is.kept (class_there parts marks address word is) is.is_kept,
           );
       landing =
           subst (λ t. IsTrue t ↔ (class_at parts.code address ≡ Some Indirect)) (sym landing_found) (
-            lands parts.code address _ class_is,
-            landed parts.code address _ class_is,
+            lands parts.code address _ (class_there parts marks address word is),
+            landed parts.code address _ (class_there parts marks address word is),
           );
     }
 
@@ -274,6 +258,28 @@ module _ (parts : CodeParts) (marks : List Bool) where
           subst (λ found. AreNeedsAt parts.code address (option_map (λ (word : SchemaWord). but_x0 word.mask) found)) (sym found) (needs_here address word here),
         )
 
+-- where a schema has a word
+module _ (parts : CodeParts) (marks : List Bool) (schema : SchemaParts) (is : IsSchemaOf parts marks schema) where
+  finds_at : (address : ℕ) (place : Option ℕ) → place_of (extents_of parts.code) address ≡ place
+      → (is_some (schema_word_at schema address) ≡ is_code (extents_of parts.code) address) × IfSome (schema_word_at schema address) (IsSchemaWordOf parts marks address)
+  finds_at address None none =
+      let found : schema_word_at schema address ≡ None = look_up parts marks schema is address None none in
+      let outside : is_code (extents_of parts.code) address ≡ false = elim (cases_Bool (is_code (extents_of parts.code) address)) [
+        | inl code ↦ absurd (absent parts marks schema is address none code)
+        | inr other ↦ other
+      ] in
+      (ap is_some found ∙ sym outside, subst (λ found. IfSome found (IsSchemaWordOf parts marks address)) (sym found) tt)
+  finds_at address (Some place) at =
+      let (word, there, here) = word_at parts marks schema is place address (address_of-place_of (extents_of parts.code) place address at) in
+      let found : schema_word_at schema address ≡ Some word = look_up parts marks schema is address (Some place) at ∙ there in
+      (ap is_some found ∙ sym (inside parts marks address word here), subst (λ found. IfSome found (IsSchemaWordOf parts marks address)) (sym found) here)
+
+pub finds_words : SchemasFindTheirWords
+finds_words parts marks schema is = record {
+  there = λ address. (finds_at parts marks schema is address (place_of (extents_of parts.code) address) refl).0;
+  words = λ address. (finds_at parts marks schema is address (place_of (extents_of parts.code) address) refl).1;
+}
+
 pub own_shape : SchemasHaveTheShape
 own_shape parts marks schema is = record {
   entry = is.entry;
@@ -281,4 +287,26 @@ own_shape parts marks schema is = record {
   count = is.words.count;
   slot = λ address. (both_at parts marks schema is address (place_of (extents_of parts.code) address) refl).0;
   needs = λ address. (both_at parts marks schema is address (place_of (extents_of parts.code) address) refl).1;
+}
+
+-- a shape of code is a shape
+apart_by : (parts : CodeParts) (marks : List Bool) (address : ℕ) (slot : Slot) (landing : Bool) → slot.landing ≡ landing → IsSlotOf parts marks address slot → slot.value ≡ true → slot.landing ≡ false
+apart_by parts marks address slot false lands is value = lands
+apart_by parts marks address slot true lands is value = absurd (both (is.value.0 value))
+  where
+    both : RecordsValue parts.code address → ⊥
+    both (inl load) = let clash : Load ≡ Indirect = one_class Load Indirect (class_at parts.code address) load.0 (is.landing.0 lands) in cc clash
+    both (inr call) = let clash : Call ≡ Indirect = one_class Call Indirect (class_at parts.code address) call (is.landing.0 lands) in cc clash
+
+clear_by : (code : List Range) (target : ℕ) (needs : Option ℕ) → AreNeedsAt code target needs → IfSome needs (λ mask. mask % 2 ≡ 0)
+clear_by code target None is = tt
+clear_by code target (Some mask) is = elim (cases_eq (mask % 2) 1) [
+  | inl odd ↦ absurd (never_x0 code target 0 ((is.needed 0).0 (bit_at_lowest mask ∙ odd)) refl)
+  | inr other ↦ omega arith
+]
+
+pub shape_of_code : ShapesOfCodeAreShapes
+shape_of_code parts marks shape is = record {
+  apart = λ address. apart_by parts marks address (shape.slot address) (shape.slot address).landing refl (is.slot address);
+  clear = λ target. clear_by parts.code target (shape.needs target) (is.needs target);
 }

@@ -1,17 +1,14 @@
 -- The events of a run are records of its program's shape, and an event file is read back as the events.
-use Rattle.std.proofs.Common.{◌≡◌, ℕ, zero, suc, ◌+◌, ◌*◌, ◌%◌, ◌<◌, ◌^◌, Bool, true, false, cond, List, [], ◌∷◌, ◌++◌, length, map, Option, Some, None, inl, inr, refl, sym, ap, subst, ◌∙◌, arith}
+use Rattle.std.proofs.Common.{◌≡◌, ℕ, zero, suc, ◌+◌, ◌%◌, ◌<◌, Bool, true, false, cond, List, [], ◌∷◌, ◌++◌, length, map, Option, Some, None, refl, sym, ap, subst, ◌∙◌, arith}
 use Rattle.std.specs.Prelude.{◌==◌, IsSome}
-use Rattle.std.specs.Option.{option_map_or}
 use Rattle.std.specs.List.{AllByRecursion}
 use Rattle.std.proofs.lemmas.Bool.{or_right}
 use Rattle.std.proofs.lemmas.List.{append-nil}
-use Rattle.ae_nums.specs.Registers.{registers_of}
-use Rattle.ae_nums.specs.declared.item.Item.{Item}
 use Rattle.rv_code.specs.declared.ending.Ending.{Ending}
 use Rattle.rv_code.specs.declared.ending.Ending.TheVariants.{Exit, Illegal, Breakpoint, LoadFault, StoreFault, FetchFault, JumpMisaligned}
 use Rattle.rv_code.specs.declared.image.Image.{Image}
-use Rattle.rv_code.specs.Code.{extents_of, is_code}
-use Rattle.rv_code.specs.Endings.{kind_of, detail_of}
+use Rattle.rv_code.specs.Code.{is_code}
+use Rattle.rv_code.specs.Endings.{detail_of}
 use Rattle.rv_code.specs.Laws.{IsItsWord}
 use Rattle.rv_code.specs.Numbers.{IsWord, number_of}
 use Rattle.rv_code.specs.Table.{meaning_of}
@@ -23,15 +20,13 @@ use Rattle.rv_machine.specs.Laws.{IsState, KeepsRanges, BeginsInRanges}
 use Rattle.rv_machine.specs.Run.{Run, first_step, run}
 use Rattle.rv_machine.specs.Start.{start_of}
 use Rattle.rv_machine.specs.Step.{Program, program_of, StepOutcome, Went, EndedWith, AfterStep, settled, after_fetch, carried_out, fetched, step_of}
-use Rattle.flow_graph.specs.CodeParts.{code_parts}
 use Rattle.ev_format.specs.declared.kind.RecordKind.TheVariants as kinds
 use Rattle.ev_format.specs.declared.record.Record.{Record}
 use Rattle.ev_format.specs.declared.record.Record.TheVariants.{Fall, Taken, Value, Landing, End}
 use Rattle.ev_format.specs.Laws.{EndsOnce, IsReadBack}
-use Rattle.ev_format.specs.Shapes.{ShapeView, HasRecord, value_count}
+use Rattle.ev_format.specs.Shapes.{ShapeView, HasRecord, registers_needed, value_count}
 use Rattle.ev_format.specs.Spelling.{kind_in}
-use Rattle.schema_form.specs.CodeShape.{IsShapeOf}
-use Rattle.schema_form.specs.EventFiles.{AreReadBack, EventFilesAreReadBack}
+use Rattle.schema_form.specs.EventFiles.{EventFilesAreReadBack}
 use Rattle.schema_form.specs.RunEvents.{recorded_if, values_needed, end_event, value_events, fall_events, jump_events, events_at_end, effect_events, registers_after, word_events, events_of_fetched, step_events, events_behind_step, events_from}
 use Rattle.schema_form.proofs.EffectWords.{ShowsWords, register_word, fetched_word, effect_shows}
 use Rattle.schema_form.proofs.OwnShape.{is_code-aligned}
@@ -47,14 +42,12 @@ mapped_words registers [] all = tt
 mapped_words registers (number ∷ numbers) all = (register_word registers number all, mapped_words registers numbers all)
 
 values_words : (needs : Option ℕ) (registers : List ℕ) → AllByRecursion IsWord registers → AllByRecursion IsWord (values_needed needs registers)
-values_words None registers all = tt
-values_words (Some mask) registers all = mapped_words registers (registers_of mask) all
+values_words needs registers all = mapped_words registers (registers_needed needs) all
 
 module _ (shape : ShapeView) where
   values_counted : (target : ℕ) (needs : Option ℕ) (registers : List ℕ) → shape.needs target ≡ needs → length (values_needed needs registers) ≡ value_count shape target
-  values_counted target None registers is = sym (ap (λ found. option_map_or (λ mask. length (registers_of mask)) found 0) is)
-  values_counted target (Some mask) registers is =
-      length-mapped (register_of registers) (registers_of mask) ∙ sym (ap (λ found. option_map_or (λ mask. length (registers_of mask)) found 0) is)
+  values_counted target needs registers is =
+      length-mapped (register_of registers) (registers_needed needs) ∙ sym (ap (λ found. length (registers_needed found)) is)
 
   recorded_records : (may : Bool) (rec : Record) → (may ≡ true → HasRecord shape rec) → AllByRecursion (HasRecord shape) (recorded_if may rec)
   recorded_records true rec is = (is refl, tt)

@@ -9,9 +9,9 @@ use Rattle.flow_graph.specs.CodeParts.{CodeParts}
 use Rattle.need_sets.specs.Needed.{IsNeeded, IsHard}
 use Rattle.need_sets.specs.Words.{class_at}
 use Rattle.ev_format.specs.declared.slot.Slot.{Slot}
-use Rattle.ev_format.specs.Shapes.{ShapeView}
-use Rattle.schema_form.specs.LookUps.{first_start, schema_shape}
-use Rattle.schema_form.specs.OfImage.{IsRecorded, IsSchemaOf}
+use Rattle.ev_format.specs.Shapes.{ShapeView, IsShape}
+use Rattle.schema_form.specs.LookUps.{first_start, schema_shape, schema_word_at}
+use Rattle.schema_form.specs.OfImage.{IsRecorded, IsSchemaOf, IsSchemaWordOf}
 use Rattle.schema_form.specs.SchemaParts.{SchemaParts}
 
 -- the value that the word gives is recorded: that of a hard load, or of a call
@@ -39,7 +39,19 @@ pub record IsShapeOf (parts : CodeParts) (marks : List Bool) (shape : ShapeView)
   pub slot : (address : ℕ) → IsSlotOf parts marks address (shape.slot address)
   pub needs : (target : ℕ) → AreNeedsAt parts.code target (shape.needs target)
 
+-- the schema has a word for exactly the addresses of code words, and it is the one that its definition asks for there
+pub record FindsItsWords (parts : CodeParts) (marks : List Bool) (schema : SchemaParts) : Type 0 where
+  pub there : (address : ℕ) → is_some (schema_word_at schema address) ≡ is_code (extents_of parts.code) address
+  pub words : (address : ℕ) → IfSome (schema_word_at schema address) (IsSchemaWordOf parts marks address)
+
+abbrev pub SchemasFindTheirWords : Type 0
+SchemasFindTheirWords = (parts : CodeParts) (marks : List Bool) (schema : SchemaParts) → IsSchemaOf parts marks schema → FindsItsWords parts marks schema
+
 -- the schema of code under marks has the shape of the code under these marks
 abbrev pub SchemasHaveTheShape : Type 0
 SchemasHaveTheShape =
     (parts : CodeParts) (marks : List Bool) (schema : SchemaParts) → IsSchemaOf parts marks schema → IsShapeOf parts marks (schema_shape schema)
+
+-- and such a shape is one that event files are read by
+abbrev pub ShapesOfCodeAreShapes : Type 0
+ShapesOfCodeAreShapes = (parts : CodeParts) (marks : List Bool) (shape : ShapeView) → IsShapeOf parts marks shape → IsShape shape

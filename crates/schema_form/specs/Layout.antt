@@ -1,5 +1,5 @@
 -- Where the parts of a schema stand, and what bytes there say: this project's own. Words are stored lowest byte first.
-use Rattle.std.specs.Prelude.{ℕ, ◌+◌, ◌*◌, List, drop, map, sum_by, take}
+use Rattle.std.specs.Prelude.{ℕ, ◌+◌, ◌*◌, List, drop, length, map, sum_by, take}
 use Rattle.std.specs.List.{range_with_len}
 use Rattle.rv_code.specs.declared.extent.Extent.{Extent}
 use Rattle.rv_code.specs.Numbers.{number_of}
@@ -30,6 +30,10 @@ stretches_from bytes count = map (stretch_from bytes) (range_with_len 0 count)
 -- how many code words stretches have
 abbrev pub words_total : List Extent → ℕ
 words_total stretches = sum_by (λ (stretch : Extent). stretch.count) stretches
+
+-- how many stand before each of the stretches
+abbrev pub words_before : List Extent → List ℕ
+words_before stretches = map (λ number. words_total (take number stretches)) (range_with_len 0 (length stretches))
 
 -- where the code word at a place stands, the first of them at an offset
 abbrev pub word_offset : (first place : ℕ) → ℕ

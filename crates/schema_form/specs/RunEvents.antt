@@ -1,8 +1,6 @@
 -- The events of a run: what is recorded of its steps, in order, so that its trace can be rebuilt. A shape says which records each address
 -- may have, and which registers each target needs. This project's own.
 use Rattle.std.specs.Prelude.{◌≡◌, ℕ, zero, suc, Bool, List, [], ◌∷◌, ◌++◌, map, Option, Some, None, if◌then◌else◌}
-use Rattle.std.specs.Option.{option_map_or}
-use Rattle.ae_nums.specs.Registers.{registers_of}
 use Rattle.rv_code.specs.declared.ending.Ending.{Ending}
 use Rattle.rv_code.specs.declared.ending.Ending.TheVariants.{Exit, Illegal, Breakpoint, LoadFault, StoreFault, FetchFault, JumpMisaligned}
 use Rattle.rv_code.specs.declared.image.Image.{Image}
@@ -17,16 +15,16 @@ use Rattle.flow_graph.specs.CodeParts.{CodeParts}
 use Rattle.ev_format.specs.declared.record.Record.{Record}
 use Rattle.ev_format.specs.declared.record.Record.TheVariants.{Fall, Taken, Value, Landing, End}
 use Rattle.ev_format.specs.Laws.{file_of_records}
-use Rattle.ev_format.specs.Shapes.{ShapeView}
+use Rattle.ev_format.specs.Shapes.{ShapeView, registers_needed}
 use Rattle.schema_form.specs.CodeShape.{IsShapeOf}
 
 -- the record, if its address may have it
 abbrev pub recorded_if : Bool → Record → List Record
 recorded_if may rec = if may then rec ∷ [] else []
 
--- the values of the registers that a target needs, in rising order; none where no code word stands there
+-- the values of the registers that a target needs
 abbrev pub values_needed : (needs : Option ℕ) → (registers : List ℕ) → List ℕ
-values_needed needs registers = option_map_or (λ mask. map (register_of registers) (registers_of mask)) needs []
+values_needed needs registers = map (register_of registers) (registers_needed needs)
 
 -- the address in an End record: that of the word, but 0 where none was carried out, or where it was a jump that came to nothing
 abbrev pub address_at_end : (at : ℕ) → Ending → ℕ

@@ -3,12 +3,11 @@ ghost use Rattle.std.specs.Prelude.{◌≡◌, ◌<◌, ◌^◌, ◌++◌, IfOk,
 ghost use Rattle.flow_graph.specs.Edges.{kind_by};
 ghost use Rattle.schema_form.specs.FreeEdges.{free_edge, free_edges_as, free_edges_of, free_edges_at, free_edges, edge_name};
 ghost use Rattle.schema_form.specs.Layout.{words_total};
-ghost use Rattle.schema_form.specs.Rules.{witness_mark};
 ghost use Rattle.schema_form.specs.Valid.{AreStretches};
 
 use crate::SchemaWord;
-use crate::flags::{FALL_WITNESS, TAKEN_WITNESS, class_in, is_set};
-use crate::rules::way_of;
+use crate::flags::{class_in, is_set};
+use crate::rules::{way_of, witness_mark};
 use crate::stretches::{address_of, place_of};
 use flow_graph::{Edge, Kind};
 use rv_code::{Class, Extent};
@@ -18,12 +17,6 @@ fn kind_by(taken: bool) -> Kind
     ensures { result ≡ kind_by taken }
 {
     if taken { Kind::Taken } else { Kind::Fall }
-}
-
-fn witness_mark(taken: bool) -> u32
-    ensures { result ≡ witness_mark taken }
-{
-    if taken { TAKEN_WITNESS } else { FALL_WITNESS }
 }
 
 /// The edge of one way from a word at a place and address, if the word has that way and it isn't recorded.

@@ -1,5 +1,5 @@
 //! Laws of schemas and of events, each the contract of a function that does nothing.
-ghost use Rattle.schema_form.specs.CodeShape.{SchemasHaveTheShape};
+ghost use Rattle.schema_form.specs.CodeShape.{SchemasFindTheirWords, SchemasHaveTheShape, ShapesOfCodeAreShapes};
 ghost use Rattle.schema_form.specs.EventFiles.{EventFilesAreReadBack};
 ghost use Rattle.schema_form.specs.Laws.{SchemasAreReadBack, SchemasHaveOneSpelling, RefusalsAreExact};
 ghost use Rattle.schema_form.specs.OfImage.{SchemasAreDetermined};
@@ -29,10 +29,16 @@ pub fn code_has_one_schema()
     ensures { SchemasAreDetermined }
 {}
 
+/// The schema of code under marks has a word for exactly the addresses of code words, and it is the one of this address.
+pub fn a_schema_has_the_words_of_its_code()
+    ensures { SchemasFindTheirWords }
+{}
+
 /// The schema of code under marks has the shape of the code under these marks: which records each address may have, and which
-/// registers each target needs.
+/// registers each target needs. No address has both a value and a landing, and x0 is never needed.
 pub fn a_schema_has_the_shape_of_its_code()
-    ensures { SchemasHaveTheShape }
+    ensures schema { SchemasHaveTheShape }
+    ensures shape { ShapesOfCodeAreShapes }
 {}
 
 /// Under given marks of the code's edges, each run has one list of events and one event file.

@@ -29,15 +29,16 @@ pub use flags::{
     CLASSES, FALL_WITNESS, KEPT, LEADER, TAKEN_WITNESS, class_in, class_number, is_set,
 };
 pub use laws::{
-    a_schema_has_one_spelling, a_schema_has_the_shape_of_its_code, code_has_one_schema,
-    event_files_are_read_back, refusals_are_exact, runs_have_one_list_of_events,
-    written_schemas_are_read,
+    a_schema_has_one_spelling, a_schema_has_the_shape_of_its_code,
+    a_schema_has_the_words_of_its_code, code_has_one_schema, event_files_are_read_back,
+    refusals_are_exact, runs_have_one_list_of_events, written_schemas_are_read,
 };
 pub use limits::SCHEMA_LIMIT;
 pub use of_image::schema_of;
 pub use reading::read_schema;
+pub use rules::{way_of, witness_mark};
 pub use rv_code::Extent as Stretch;
-pub use schema::Schema;
+pub use schema::{Schema, gives_value, is_indirect};
 pub use stretches::place_of;
 pub use word::SchemaWord;
 pub use writing::put_schema;

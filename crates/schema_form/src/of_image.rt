@@ -14,11 +14,12 @@ ghost use Rattle.schema_form.specs.OfImage.{AreSchemaWordsOf, GivesKept, IsRecor
 ghost use Rattle.schema_form.specs.Valid.{AreNumbersOfWord};
 
 use crate::flags::{FALL_WITNESS, KEPT, LEADER, TAKEN_WITNESS, class_number};
+use crate::schema::with_parts;
 use crate::{Schema, SchemaWord};
 use flow_graph::{Edge, Graph, address_at, blocks_are_runs_of_code_words};
 use flow_tree::Forest;
 use need_sets::Needs;
-use rv_code::{Class, Extent, Image, ListOf, Range, class_of, count_in, decode};
+use rv_code::{Class, Extent, Image, Range, class_of, count_in, decode};
 use std::alloc::{AllocError, Global};
 
 fn mark_if(mark: u32, set: bool) -> u32
@@ -225,9 +226,5 @@ pub fn schema_of(
     blocks_are_runs_of_code_words();
     let words = schema_words_of(alloc, graph, forest.witness.as_slice(), needs)?;
     let stretches = extents_of(alloc, graph.ranges())?;
-    Ok(Schema {
-        entry: image.entry,
-        stretches: ListOf::from_vec(stretches),
-        words: ListOf::from_vec(words),
-    })
+    with_parts(alloc, image.entry, stretches, words)
 }

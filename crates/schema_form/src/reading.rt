@@ -10,9 +10,10 @@ use crate::cycles::first_cycle;
 use crate::front::{front_refusal, stretch_refusal};
 use crate::numbers::{schema_word_from, stretch_from, word_from};
 use crate::refusing::body_refusal;
+use crate::schema::with_parts;
 use crate::stretches::words_total;
 use crate::{Schema, SchemaFault, SchemaWord};
-use rv_code::{Extent, ListOf};
+use rv_code::Extent;
 use std::alloc::{AllocError, Global};
 
 /// The first so many stretches, which are whole.
@@ -96,9 +97,6 @@ pub fn read_schema(alloc: Global, bytes: &[u8]) -> Result<Schema, SchemaFault>
     if let Some(edge) = first_cycle(alloc, &stretches, &words)? {
         return Err(SchemaFault::NotAForest { edge });
     }
-    Ok(Schema {
-        entry: word_from(bytes, 4),
-        stretches: ListOf::from_vec(stretches),
-        words: ListOf::from_vec(words),
-    })
+    let schema = with_parts(alloc, word_from(bytes, 4), stretches, words)?;
+    Ok(schema)
 }

@@ -1,7 +1,7 @@
 //! What a schema may have for a code word.
 ghost use Rattle.std.specs.Prelude.{◌≡◌};
 ghost use Rattle.rv_code.specs.Code.{is_code};
-ghost use Rattle.schema_form.specs.Rules.{raw_fits, way_of, edge_misfits, misfits_as, word_misfits};
+ghost use Rattle.schema_form.specs.Rules.{raw_fits, witness_mark, way_of, edge_misfits, misfits_as, word_misfits};
 
 use crate::SchemaWord;
 use crate::flags::{
@@ -21,7 +21,16 @@ fn raw_fits(class: Class, kept: bool, raw: u32) -> bool
     class_number(class_of(&instr)) == class_number(class) && (!kept || writes(&instr).is_some())
 }
 
+/// The mark of a word whose edge of this way is recorded.
+#[inline]
+pub fn witness_mark(taken: bool) -> u32
+    ensures { result ≡ witness_mark taken }
+{
+    if taken { TAKEN_WITNESS } else { FALL_WITNESS }
+}
+
 /// Where a way leads from a word of the class at an address, if it has that way.
+#[inline]
 pub fn way_of(taken: bool, class: Class, raw: u32, address: u32) -> Option<u32>
     ensures { result ≡ way_of taken class raw address }
 {

@@ -1,13 +1,15 @@
 //! A schema, and what it says of the code word at an address.
-ghost use Rattle.std.specs.Prelude.{◌≡◌, ◌<◌, ◌≤◌, length};
+ghost use Rattle.std.specs.Prelude.{◌≡◌, ◌<◌, ◌≤◌, IfOk, length};
 ghost use Rattle.rv_code.specs.Places.{address_of};
 ghost use Rattle.schema_form.specs.LookUps.{schema_word_at, slot_by, gives_value, is_indirect, first_start};
+ghost use Rattle.schema_form.specs.Valid.{IsSchema};
 
 use crate::SchemaWord;
 use crate::flags::{FALL_WITNESS, KEPT, TAKEN_WITNESS, class_in, is_set};
-use crate::stretches::{address_of, place_of};
+use crate::stretches::{address_of, place_by, words_before};
 use ev_format::{Shape, Slot};
 use rv_code::{Class, Extent, ListOf};
+use std::alloc::{AllocError, Global};
 use std::marker::Model;
 
 /// What is known of a program beforehand: where its run begins, where its code words stand, and what is known of each of them, in the
@@ -17,19 +19,20 @@ pub struct Schema {
     pub entry: u32,
     pub stretches: ListOf<Extent>,
     pub words: ListOf<SchemaWord>,
+    // how many code words stand before each stretch
+    before: ListOf<u32>,
 }
 
 impl Model for Schema {
     ghost use Rattle.schema_form.specs.SchemaParts.{SchemaParts};
-    ghost use Rattle.schema_form.specs.Valid.{IsSchema};
 
     ghost Value = { SchemaParts };
 
-    ghost use Rattle.schema_form.specs.SchemaView.{schema_parts};
+    ghost use Rattle.schema_form.specs.SchemaView.{IsSchemaInside, schema_parts};
 
     ghost view = { schema_parts };
 
-    ghost invariant = { λ schema. IsSchema (schema_parts schema) };
+    ghost invariant = { IsSchemaInside };
 }
 
 impl Schema {
@@ -37,7 +40,7 @@ impl Schema {
     pub fn word_at(&self, address: u32) -> Option<SchemaWord>
         ensures { result ≡ schema_word_at self.now address }
     {
-        let place = place_of(self.stretches.as_slice(), address)?;
+        let place = place_by(self.stretches.as_slice(), self.before.as_slice(), address)?;
         Some(self.words.as_slice()[place as usize])
     }
 
@@ -49,8 +52,28 @@ impl Schema {
     }
 }
 
+/// The schema of these parts, with how many code words stand before each stretch.
+pub fn with_parts(
+    alloc: Global,
+    entry: u32,
+    stretches: Vec<Extent>,
+    words: Vec<SchemaWord>,
+) -> Result<Schema, AllocError>
+    requires { IsSchema (record { entry = entry; stretches = stretches.items; words = words.items }) }
+    ensures { IfOk result (λ schema. schema ≡ record { entry = entry; stretches = stretches.items; words = words.items }) }
+{
+    let before = words_before(alloc, &stretches)?;
+    Ok(Schema {
+        entry,
+        stretches: ListOf::from_vec(stretches),
+        words: ListOf::from_vec(words),
+        before: ListOf::from_vec(before),
+    })
+}
+
 /// Whether a word of the class gives a value that is recorded.
-fn gives_value(kept: bool, class: Class) -> bool
+#[inline]
+pub fn gives_value(kept: bool, class: Class) -> bool
     ensures { result ≡ gives_value kept class }
 {
     match class {
@@ -61,7 +84,8 @@ fn gives_value(kept: bool, class: Class) -> bool
 }
 
 /// Whether a word of the class is an indirect jump.
-fn is_indirect(class: Class) -> bool
+#[inline]
+pub fn is_indirect(class: Class) -> bool
     ensures { result ≡ is_indirect class }
 {
     match class {

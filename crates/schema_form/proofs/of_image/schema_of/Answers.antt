@@ -7,8 +7,8 @@ use Rattle.schema_form.specs.Valid.{IsSchema}
 use Rattle.schema_form.proofs.OwnSchema.{IsOwnCode, own_code, own_schema}
 use Rattle.schema_form.proofs.of_image.schema_of.Goals as goal
 
-pub invariant_of-result : goal.invariant_of-result
-invariant_of-result c =
+pub with_parts-requires : goal.with_parts-requires
+with_parts-requires c =
     let parts = c.args.graph.now in
     let image = c.args.image.now in
     let marks = c.args.forest.now.witness in
@@ -21,7 +21,7 @@ invariant_of-result c =
     own_schema parts marks words order (c.blocks_are_runs_of_code_words.ensures.blocks parts order ends) (c.blocks_are_runs_of_code_words.ensures.words parts order ends)
     c.requires.cuts (subst (λ (m : List Bool). AreSchemaWordsOf parts m (word_count parts.code) words) c.as_slice.ensures c.in_ok-words.ensures.words) c.requires.marks c.in_ok-words.ensures.numbers image.entry own in
     let entry : c.image.inside.entry ≡ image.entry = λ i. (c.image.view_is i).entry in
-    let stretches : c.from_vec.result ≡ extents_of parts.code = c.from_vec.ensures ∙ c.in_ok-stretches.ensures ∙ ap extents_of c.ranges-2.ensures.ranges in
-    let same : ◌≡◌ {A = SchemaParts} (record { entry = c.image.inside.entry; stretches = c.from_vec.result; words = c.from_vec-2.result }) (record { entry = image.entry; stretches = extents_of parts.code; words = words })
-    = λ i. record { entry = entry i; stretches = stretches i; words = c.from_vec-2.ensures i } in
+    let stretches : c.in_ok-stretches.stretches.items ≡ extents_of parts.code = c.in_ok-stretches.ensures ∙ ap extents_of c.ranges-2.ensures.ranges in
+    let same : ◌≡◌ {A = SchemaParts} (record { entry = c.image.inside.entry; stretches = c.in_ok-stretches.stretches.items; words = words }) (record { entry = image.entry; stretches = extents_of parts.code; words = words })
+    = λ i. record { entry = entry i; stretches = stretches i; words = words } in
     subst IsSchema (sym same) made

@@ -35,8 +35,8 @@ returns-in-Some-clause-refused c = λ differ.
     let names = MatchOption-at_some (HaveNoCycle edges) (NamesFirstToClose edges) c.in-Some.edge c.in-Some.is c.in_ok-edge.ensures in
     refused_edges bytes stretches c.in_ok-stretches.ensures.read words none read c.in-Some.edge (subst (λ (list : List Edge). NamesFirstToClose list c.in-Some.edge) same names)
 
-pub invariant_of-result : goal.invariant_of-result
-invariant_of-result c =
+pub with_parts-requires : goal.with_parts-requires
+with_parts-requires c =
     let bytes = c.args.bytes.now in
     let stretches = c.in_ok-stretches.stretches.items in
     let words = c.in_ok-words.words.items in
@@ -47,8 +47,8 @@ invariant_of-result c =
     let edges = free_edges c.deref-2.result.now c.deref-3.result.now in
     let same : edges ≡ free_edges stretches words = λ i. free_edges (c.deref-2.ensures.value i) (c.deref-3.ensures.value i) in
     let forest = subst (λ (list : List Edge). HaveNoCycle list) same (MatchOption-at_none (HaveNoCycle edges) (NamesFirstToClose edges) c.in_default.is c.in_ok-edge.ensures) in
-    is_schema bytes stretches c.in_ok-stretches.ensures.read words none read (record { entry = c.word_from.result; stretches = c.from_vec.result; words = c.from_vec-2.result })
-    (λ i. record { entry = c.word_from.ensures i; stretches = c.from_vec.ensures i; words = c.from_vec-2.ensures i }) forest small
+    is_schema bytes stretches c.in_ok-stretches.ensures.read words none read (record { entry = c.word_from.result; stretches = stretches; words = words })
+    (λ i. record { entry = c.word_from.ensures i; stretches = stretches; words = words }) forest small
 
 pub returns-clause-read : goal.returns-clause-read
 returns-clause-read c =
@@ -61,5 +61,5 @@ returns-clause-read c =
     let edges = free_edges c.deref-2.result.now c.deref-3.result.now in
     let same : edges ≡ free_edges stretches words = λ i. free_edges (c.deref-2.ensures.value i) (c.deref-3.ensures.value i) in
     let forest = subst (λ (list : List Edge). HaveNoCycle list) same (MatchOption-at_none (HaveNoCycle edges) (NamesFirstToClose edges) c.in_default.is c.in_ok-edge.ensures) in
-    spelled bytes stretches c.in_ok-stretches.ensures.read words none read (record { entry = c.word_from.result; stretches = c.from_vec.result; words = c.from_vec-2.result })
-    (λ i. record { entry = c.word_from.ensures i; stretches = c.from_vec.ensures i; words = c.from_vec-2.ensures i }) forest
+    spelled bytes stretches c.in_ok-stretches.ensures.read words none read c.in_ok-schema.schema
+    (c.in_ok-schema.ensures ∙ (λ i. record { entry = c.word_from.ensures i; stretches = stretches; words = words })) forest
