@@ -1,51 +1,49 @@
 -- A byte among some from an address on.
-use Rattle.std.proofs.Common.{◌≡◌, inl, inr, ℕ, zero, suc, ◌+◌, ◌-◌, ◌%◌, ◌^◌, ◌<◌, ◌≤◌, Bool, true, false, eqb, ltb, refl, sym, ap, ◌∙◌, arith}
+use Rattle.std.proofs.Common.{◌≡◌, inl, inr, ℕ, zero, suc, ◌+◌, ◌-◌, ◌%◌, ◌^◌, ◌<◌, Bool, true, false, eqb, ltb, refl, sym, ap, ◌∙◌, arith}
 use Rattle.std.specs.Prelude.{◌||◌}
 use Rattle.std.specs.Cmp.{both_ways}
-use Rattle.std.specs.List.{list_any, range_with_len}
+use Rattle.std.specs.List.{list_any}
 use Rattle.std.proofs.lemmas.Bool.{eq-eqb, ltb-true, lt-ltb, cases_eq, ne_eqb}
+use Rattle.rv_memory.specs.Memory.{span}
 
-module _ (address byte : ℕ) (low : address < 2 ^ 32) (small : byte < 2 ^ 32) where
-  abbrev behind : ℕ
-  behind = (byte + (2 ^ 32 - address)) % 2 ^ 32
+or_else : (b : Bool) {c : Bool} → c ≡ true → (b || c) ≡ true
+or_else true is = refl
+or_else false is = is
 
-  -- so many bytes behind the address stands the byte
-  one_way : (number : ℕ) → number < 2 ^ 32 → (address + number) % 2 ^ 32 ≡ byte → number ≡ behind
-  one_way number less is = omega (arith, low, small, less, is)
+module _ (byte : ℕ) (small : byte < 2 ^ 32) where
+  -- so many bytes behind an address stands the byte
+  abbrev behind : (address : ℕ) → ℕ
+  behind address = (byte + (2 ^ 32 - address)) % 2 ^ 32
 
-  other_way : (number : ℕ) → number < 2 ^ 32 → number ≡ behind → (address + number) % 2 ^ 32 ≡ byte
-  other_way number less is = omega (arith, low, small, less, is)
+  here : (address : ℕ) → address < 2 ^ 32 → address ≡ byte → behind address ≡ 0
+  here address low is = omega (arith, low, small, is)
 
-  none_left : (from : ℕ) → list_any (λ number. eqb ((address + number) % 2 ^ 32) byte) (range_with_len from 0) ≡ false
-  none_left from = refl
+  further : (address : ℕ) → address < 2 ^ 32 → (address ≡ byte → ⊥) → behind address ≡ behind ((address + 1) % 2 ^ 32) + 1
+  further address low apart = omega (arith, low, small, apart)
 
-  among : (from count : ℕ) → from + count ≤ 2 ^ 32 → list_any (λ number. eqb ((address + number) % 2 ^ 32) byte) (range_with_len from count) ≡ true
-      → (from ≤ behind) × (behind < from + count)
-  among from zero within is = absurd (let clash : false ≡ true = is in cc)
-  among from (suc count) within is = elim (cases_eq ((address + from) % 2 ^ 32) byte) [
-    | inl here ↦ let equal = one_way from (omega arith) here in (omega (arith, equal), omega (arith, equal))
+  there : (size address : ℕ) → address < 2 ^ 32 → behind address < size → list_any (λ touched. eqb touched byte) (span address size) ≡ true
+  there zero address low less = absurd (omega (arith, less))
+  there (suc size) address low less = elim (cases_eq address byte) [
+    | inl is ↦ ap (λ b. b || list_any (λ touched. eqb touched byte) (span ((address + 1) % 2 ^ 32) size)) (eq-eqb address byte is)
     | inr apart ↦
-        let later : list_any (λ number. eqb ((address + number) % 2 ^ 32) byte) (range_with_len (from + 1) count) ≡ true =
-        ap (λ b. b || list_any (λ number. eqb ((address + number) % 2 ^ 32) byte) (range_with_len (from + 1) count)) (sym (ne_eqb _ _ apart)) ∙ is in
-        let rest = among (from + 1) count (omega arith) later in (omega (arith, rest.0), omega (arith, rest.1))
+        let next = further address low apart in
+        or_else (eqb address byte) (there size ((address + 1) % 2 ^ 32) (omega arith) (omega (arith, next, less)))
   ]
 
-  there : (from count : ℕ) → from + count ≤ 2 ^ 32 → from ≤ behind → behind < from + count
-      → list_any (λ number. eqb ((address + number) % 2 ^ 32) byte) (range_with_len from count) ≡ true
-  there from zero within above below = absurd (omega (arith, above, below))
-  there from (suc count) within above below = elim (cases_eq from behind) [
-    | inl here ↦
-        ap (λ b. b || list_any (λ number. eqb ((address + number) % 2 ^ 32) byte) (range_with_len (from + 1) count))
-        (eq-eqb _ _ (other_way from (omega arith) here))
-    | inr apart ↦ or_else (eqb ((address + from) % 2 ^ 32) byte) (there (from + 1) count (omega arith) (omega (arith, above, apart)) (omega (arith, below)))
+  among : (size address : ℕ) → address < 2 ^ 32 → list_any (λ touched. eqb touched byte) (span address size) ≡ true → behind address < size
+  among zero address low is = absurd (let clash : false ≡ true = is in cc)
+  among (suc size) address low is = elim (cases_eq address byte) [
+    | inl same ↦ let none = here address low same in omega (arith, none)
+    | inr apart ↦
+        let next = further address low apart in
+        let later : list_any (λ touched. eqb touched byte) (span ((address + 1) % 2 ^ 32) size) ≡ true =
+        ap (λ b. b || list_any (λ touched. eqb touched byte) (span ((address + 1) % 2 ^ 32) size)) (sym (ne_eqb _ _ apart)) ∙ is in
+        let rest = among size ((address + 1) % 2 ^ 32) (omega arith) later in
+        omega (arith, next, rest)
   ]
-    where
-      or_else : (b : Bool) {c : Bool} → c ≡ true → (b || c) ≡ true
-      or_else true is = refl
-      or_else false is = is
 
   -- so it is among them where it stands fewer behind
-  pub is_among : (size : ℕ) → size ≤ 4 → ltb behind size ≡ list_any (λ number. eqb ((address + number) % 2 ^ 32) byte) (range_with_len 0 size)
-  is_among size few = both_ways _ _
-      (λ is. there 0 size (omega arith) (omega arith) (let below = ltb-true behind size is in omega (arith, below)))
-      (λ is. let both = among 0 size (omega arith) is in lt-ltb behind size (omega (arith, both.1)))
+  pub is_among : (address size : ℕ) → address < 2 ^ 32 → ltb (behind address) size ≡ list_any (λ touched. eqb touched byte) (span address size)
+  is_among address size low = both_ways _ _
+      (λ is. there size address low (ltb-true (behind address) size is))
+      (λ is. lt-ltb (behind address) size (among size address low is))

@@ -1,18 +1,9 @@
--- How many registers a mask has at most.
-use Rattle.std.proofs.Common.{ℕ, zero, suc, ◌+◌, ◌<◌, ◌≤◌, Bool, true, false, cond, List, ◌∷◌, length, eqb, refl, arith}
+-- The registers of a mask are those that there are.
+use Rattle.std.proofs.Common.{ℕ, zero, suc, ◌+◌, ◌<◌, ◌≤◌, Bool, true, false, cond, List, ◌∷◌, eqb, arith}
 use Rattle.std.specs.Int.{bit_at}
 use Rattle.std.specs.List.{AllByRecursion, range_with_len}
-use Rattle.std.proofs.lemmas.List.Filters.{length-filter_both}
-use Rattle.std.proofs.lemmas.List.FromFn.{length-range_with_len}
 use Rattle.ae_nums.specs.Registers.{registers_of}
-use Rattle.std.specs.Prelude.{filter, not}
-
-pub registers_few : (mask : ℕ) → length (registers_of mask) ≤ 31
-unfolding registers_of
-registers_few mask =
-    let both = length-filter_both (λ register. eqb (bit_at mask register) 1) (λ register. not (eqb (bit_at mask register) 1)) (λ register. refl) (range_with_len 1 31) in
-    let all = length-range_with_len 1 31 in
-    omega (arith, both, all)
+use Rattle.std.specs.Prelude.{filter}
 
 low_kept : (b : Bool) (register : ℕ) (registers : List ℕ) → register < 32 → AllByRecursion (λ (r : ℕ). r < 32) registers → AllByRecursion (λ (r : ℕ). r < 32) (cond b (register ∷ registers) registers)
 low_kept true register registers low rest = (low, rest)

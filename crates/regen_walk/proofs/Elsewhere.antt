@@ -86,7 +86,7 @@ module _ (parts : SchemaParts) (at : ℕ) (taken : Bool) (rec : Record) where
     over_quietly start took now (Err Astray) astray =
         record { none = λ moved tells. none_over start.registers astray.none tells.ways moved tells.made; same = astray.same }
     over_quietly start took now (Err Failed) broken =
-        record { moved = broken.moved; tells = tells_over start.registers broken.moved broken.tells; count = broken.count; front = broken.front }
+        record { moved = broken.moved; tells = tells_over start.registers broken.moved broken.tells; front = broken.front }
 
   -- over an edge by its record
   pub over_told : (stand : Stand) → CrossesTold parts at taken rec stand → (registers : List ℕ)

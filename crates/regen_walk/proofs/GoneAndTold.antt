@@ -1,14 +1,15 @@
 -- Moves along a way, and then those that give the record.
-use Rattle.std.proofs.Common.{◌≡◌, ℕ, ◌+◌, Bool, true, List, [], ◌∷◌, ◌++◌, length, map, take, append_assoc, Some, refl, sym, ap, subst, ◌∙◌}
-use Rattle.std.proofs.lemmas.List.{map-append, take-append-le}
+use Rattle.std.proofs.Common.{◌≡◌, ℕ, ◌+◌, Bool, true, List, [], ◌∷◌, ◌++◌, length, map, take, append_assoc, Some, refl, sym, ap, subst, ◌∙◌, arith}
+use Rattle.std.proofs.lemmas.List.{length-append, map-append, take-append-le}
 use Rattle.std.proofs.Math.Seq.{take-append-add}
 use Rattle.ae_nums.specs.declared.item.Item.{Item}
+use Rattle.rv_machine.specs.Outcomes.{TookFront}
 use Rattle.ev_format.specs.declared.record.Record.{Record}
 use Rattle.ev_format.specs.declared.record.Record.TheVariants.{Fall, Taken, Value, Landing, End}
 use Rattle.regen_path.specs.declared.arcs.Arc.{Arc}
 use Rattle.schema_form.specs.SchemaParts.{SchemaParts}
 use Rattle.regen_walk.specs.declared.position.Position.TheVariants.{Before}
-use Rattle.regen_walk.specs.Inner.Going.{GoesAlong, TakesFront, ways_along}
+use Rattle.regen_walk.specs.Inner.Going.{GoesAlong, ways_along}
 use Rattle.regen_walk.specs.Inner.Telling.{HasBrokenOff, last_moves, may_tell}
 use Rattle.regen_walk.specs.Labels.{Label, Quiet, Tell, moves_to}
 use Rattle.regen_walk.specs.Moves.{Moved}
@@ -45,15 +46,18 @@ module _ (parts : SchemaParts) (walk : List Arc) (from to : ℕ) (there : List �
       }
 
   -- the taker failed along the way
-  pub broken_going : (start : WalkParts) (took : List Item → Type 0) → GoesAlong parts walk from to start.registers there items → may_tell parts to there rec ≡ true → TakesFront took items
+  pub broken_going : (start : WalkParts) (took : List Item → Type 0) → GoesAlong parts walk from to start.registers there items → may_tell parts to there rec ≡ true → TookFront took items
       → IsBrokenOff parts (Before from) start rec took
   broken_going start took goes may front =
       let told = there_is (walk_from parts (Before to) there (last_moves rec)) may in
       record {
         moved = behind_items items told.0;
         tells = tells_so start.registers told.0 goes told.1;
-        count = front.0;
-        front = subst took (sym (take-append-le front.0 items told.0.items front.1)) front.2;
+        front = (
+          front.0,
+          (let long = length-append items told.0.items in omega (arith, long, front.1)),
+          subst took (sym (take-append-le front.0 items told.0.items front.1)) front.2,
+        );
       }
 
   -- the taker failed behind it
@@ -63,6 +67,9 @@ module _ (parts : SchemaParts) (walk : List Arc) (from to : ℕ) (there : List �
       record {
         moved = behind_items items broken.moved;
         tells = tells_so start.registers broken.moved goes broken.made;
-        count = length items + broken.front.0;
-        front = subst took (sym (take-append-add items broken.moved.items broken.front.0)) (both (take broken.front.0 broken.moved.items) broken.front.2);
+        front = (
+          length items + broken.front.0,
+          (let long = length-append items broken.moved.items in omega (arith, long, broken.front.1)),
+          subst took (sym (take-append-add items broken.moved.items broken.front.0)) (both (take broken.front.0 broken.moved.items) broken.front.2),
+        );
       }

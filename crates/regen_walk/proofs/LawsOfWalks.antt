@@ -1,6 +1,7 @@
 -- Laws of walks that grow record by record. They have no code, and proofs of every crate may cite them.
 use Rattle.std.proofs.Common.{◌≡◌, Bool, List, [], ◌∷◌, ◌++◌, append_assoc, Some, refl, sym, ap, subst, ◌∙◌, arith}
 use Rattle.std.specs.Prelude.{IsSome, is_some}
+use Rattle.rv_machine.specs.Start.{first_registers}
 use Rattle.ev_format.specs.declared.record.Record.{Record}
 use Rattle.schema_form.specs.SchemaParts.{SchemaParts}
 use Rattle.schema_form.specs.Valid.{IsSchema}
@@ -9,7 +10,6 @@ use Rattle.regen_walk.specs.Labels.{Label, Quiet, Tell, moves_to, records_in}
 use Rattle.regen_walk.specs.Laws.{quiet_before, up_to_last}
 use Rattle.regen_walk.specs.Moves.{Moved}
 use Rattle.regen_walk.specs.Promises.{Tells}
-use Rattle.regen_walk.specs.Registers.{walk_registers}
 use Rattle.regen_walk.specs.Walks.{AreItemsOf, Explains, IsExplained, IsShortest, behind_items, walk_from, walk_of}
 use Rattle.regen_walk.proofs.OneWalk.{front_made, parted, same_walk, up_to_both}
 use Rattle.regen_walk.proofs.ShortestWalk.{ends_there, shortest_up}
@@ -72,7 +72,7 @@ cut_at (rec ∷ records) more labels is =
     }
 
 -- before any record
-pub IsAfter-none : (parts : SchemaParts) → IsAfter parts [] (record { items = []; position = Before parts.entry; registers = walk_registers })
+pub IsAfter-none : (parts : SchemaParts) → IsAfter parts [] (record { items = []; position = Before parts.entry; registers = first_registers })
 IsAfter-none parts =
     record {
       labels = [];
@@ -86,7 +86,7 @@ module _ (parts : SchemaParts) (valid : IsSchema parts) (records : List Record) 
   IsAfter-more next tells =
       let labels : List Label = after.labels ++ moves_to tells.ways rec in
       let made : walk_of parts labels ≡ Some (behind_items moved.items next) =
-      walk_both parts (Before parts.entry) walk_registers after.labels (moves_to tells.ways rec) moved next after.made tells.made
+      walk_both parts (Before parts.entry) first_registers after.labels (moves_to tells.ways rec) moved next after.made tells.made
       in
       let explains : Explains parts (records ++ rec ∷ []) labels =
       record {
@@ -107,7 +107,7 @@ module _ (parts : SchemaParts) (valid : IsSchema parts) (records : List Record) 
   pub IsAfter-explained : (more : List Record) → IsExplained parts (records ++ rec ∷ more) → (next : Moved) × Tells parts moved.position moved.registers rec next
   IsAfter-explained more explained =
       let c = cut_at records (rec ∷ more) explained.0 explained.1.told in
-      let f = front_made parts c.front c.behind (Before parts.entry) walk_registers (subst (λ (labels : List Label). IsSome (walk_of parts labels)) c.all explained.1.made) in
+      let f = front_made parts c.front c.behind (Before parts.entry) first_registers (subst (λ (labels : List Label). IsSome (walk_of parts labels)) c.all explained.1.made) in
       let front : c.front ≡ after.labels =
       sym c.ends ∙ same_walk parts valid records c.front after.labels (record { made = ap is_some f.1; told = c.told }) after.shortest.explains ∙ sym (ends_there parts records after.labels after.shortest)
       in

@@ -9,10 +9,12 @@ mod ForestArcs
 mod Gave
 mod GoneAndTold
 mod Hops
+mod Linked
 mod OneWalk
 mod Onward
 mod Passing
 mod Reached
+mod Replayed
 mod Shortness
 mod ShortestWalk
 mod Steps

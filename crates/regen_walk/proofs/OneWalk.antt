@@ -2,6 +2,7 @@
 use Rattle.std.proofs.Common.{◌≡◌, ℕ, Bool, true, false, List, [], ◌∷◌, ◌++◌, Some, refl, sym, ap, subst, ◌∙◌}
 use Rattle.std.specs.Prelude.{IsSome, is_some}
 use Rattle.std.specs.Option.{option_and_then, option_map}
+use Rattle.rv_machine.specs.Start.{first_registers}
 use Rattle.graph_paths.specs.Forests.{IsAmong}
 use Rattle.rv_code.specs.Places.{place_of}
 use Rattle.ev_format.specs.declared.record.Record.{Record}
@@ -19,7 +20,6 @@ use Rattle.regen_walk.specs.Inner.Going.{ways_along}
 use Rattle.regen_walk.specs.Labels.{Label, Quiet, Tell, moves_to, records_in}
 use Rattle.regen_walk.specs.Laws.{SameRecordsSameWalk, quiet_before, up_to_last}
 use Rattle.regen_walk.specs.Moves.{Moved, move_of, names_edge}
-use Rattle.regen_walk.specs.Registers.{walk_registers}
 use Rattle.regen_walk.specs.Walks.{behind_items, walk_from}
 use Rattle.regen_walk.proofs.Crossed.{tell_free}
 use Rattle.regen_walk.proofs.Elsewhere.{not_first}
@@ -174,4 +174,4 @@ module _ (parts : SchemaParts) (valid : IsSchema parts) where
 
 pub same_walk : SameRecordsSameWalk
 same_walk parts valid records one other explains also =
-    one_walk parts valid records (Before parts.entry) walk_registers one other explains.made also.made explains.told also.told
+    one_walk parts valid records (Before parts.entry) first_registers one other explains.made also.made explains.told also.told

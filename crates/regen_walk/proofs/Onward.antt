@@ -3,6 +3,7 @@ use Rattle.std.proofs.Common.{◌≡◌, inl, inr, ℕ, zero, suc, ◌+◌, ◌<
 use Rattle.std.proofs.lemmas.List.{length-append, take-append-le}
 use Rattle.std.proofs.Math.Seq.{take-append-add}
 use Rattle.ae_nums.specs.declared.item.Item.{Item}
+use Rattle.rv_machine.specs.Outcomes.{TookFront}
 use Rattle.graph_paths.specs.Forests.{Trail}
 use Rattle.rv_code.specs.Places.{address_of}
 use Rattle.rv_code.proofs.LawsOfLookUps.{address_of-place_of}
@@ -15,7 +16,7 @@ use Rattle.schema_form.specs.Valid.{IsSchema}
 use Rattle.regen_walk.specs.declared.met.Spot.{Spot}
 use Rattle.regen_walk.specs.declared.position.Position.TheVariants.{Before}
 use Rattle.regen_walk.specs.FreeArcs.{kind_number, quiet_arcs}
-use Rattle.regen_walk.specs.Inner.Going.{GoesAlong, TakesFront, ways_along}
+use Rattle.regen_walk.specs.Inner.Going.{GoesAlong, ways_along}
 use Rattle.regen_walk.specs.Inner.Met.{IsSpot}
 use Rattle.regen_walk.specs.Inner.OnTheWay.{IsOnTheWay}
 use Rattle.regen_walk.specs.Labels.{Quiet}
@@ -33,7 +34,7 @@ kind_by (suc zero) low = refl
 kind_by (suc (suc kind)) low = absurd (omega (arith, low))
 
 -- a front of the items that were taken in between is one of all
-pub front_within : (took : List Item → Type 0) (before between behind : List Item) (count : ℕ) → count ≤ length between → took (before ++ take count between) → TakesFront took ((before ++ between) ++ behind)
+pub front_within : (took : List Item → Type 0) (before between behind : List Item) (count : ℕ) → count ≤ length between → took (before ++ take count between) → TookFront took ((before ++ between) ++ behind)
 front_within took before between behind count few is =
     let long = length-append before between in
     let far = length-append (before ++ between) behind in
@@ -84,7 +85,7 @@ module _ (parts : SchemaParts) (valid : IsSchema parts) (ways : List Ways) (are 
   pub breaks_off : (from spot : Spot) (before now : List ℕ) (items more : List Item) (count taken : ℕ) (took : List Item → Type 0) → IsOnTheWay parts ways from goal spot before now (items ++ more) count
       → taken ≤ length more → took (items ++ take taken more)
       → (walk : List Arc) → IsWalk (HasArc ways) from.place goal.place walk
-      → (given : List Item) × (there : List ℕ) × GoesAlong parts walk from.address goal.address before there given × TakesFront took given
+      → (given : List Item) × (there : List ℕ) × GoesAlong parts walk from.address goal.address before there given × TookFront took given
   breaks_off from spot before now items more count taken took on few has walk walks =
       let all : on.front ++ on.rest ≡ walk = walks_same ways (forest_in parts valid ways are) from.place goal.place (on.front ++ on.rest) walk on.whole walks in
       let rest = may_go on.rest spot on.stands now on.left in

@@ -3,6 +3,7 @@ use Rattle.std.proofs.Common.{◌≡◌, ◌≤◌, Bool, List, [], ◌∷◌, �
 use Rattle.std.specs.Prelude.{IsSome, is_some}
 use Rattle.std.proofs.lemmas.List.{append-nil, length-append}
 use Rattle.ae_nums.specs.declared.item.Item.{Item}
+use Rattle.rv_machine.specs.Start.{first_registers}
 use Rattle.ev_format.specs.declared.record.Record.{Record}
 use Rattle.schema_form.specs.SchemaParts.{SchemaParts}
 use Rattle.schema_form.specs.Valid.{IsSchema}
@@ -10,7 +11,6 @@ use Rattle.regen_walk.specs.declared.position.Position.TheVariants.{Before}
 use Rattle.regen_walk.specs.Labels.{Label, Quiet, Tell, records_in}
 use Rattle.regen_walk.specs.Laws.{ExplainedHaveItems, HaveItems, ShortestEndsWithRecord, quiet_before, up_to_last}
 use Rattle.regen_walk.specs.Moves.{Moved}
-use Rattle.regen_walk.specs.Registers.{walk_registers}
 use Rattle.regen_walk.specs.Walks.{AreItemsOf, Explains, IsExplained, IsShortest, walk_of}
 use Rattle.regen_walk.proofs.OneWalk.{front_made, same_walk}
 use Rattle.regen_walk.proofs.Reached.{there_is}
@@ -50,7 +50,7 @@ explains_up parts records labels explains =
     let t = tailed labels in
     let made : IsSome (walk_of parts (up_to_last labels ++ t.tail)) = subst (λ (list : List Label). IsSome (walk_of parts list)) t.all explains.made in
     record {
-      made = ap is_some (front_made parts (up_to_last labels) t.tail (Before parts.entry) walk_registers made).1;
+      made = ap is_some (front_made parts (up_to_last labels) t.tail (Before parts.entry) first_registers made).1;
       told = same_records labels ∙ explains.told;
     }
 

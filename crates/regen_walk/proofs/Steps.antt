@@ -5,7 +5,6 @@ use Rattle.std.specs.Option.{option_and_then, option_map}
 use Rattle.std.proofs.lemmas.Bool.{cases_Bool}
 use Rattle.rv_code.specs.declared.class.Class.{Class}
 use Rattle.rv_code.specs.declared.class.Class.TheVariants.{Plain, Load, Store, Branch, Jump, Indirect, Call, Stop}
-use Rattle.rv_code.specs.Numbers.{wrap}
 use Rattle.rv_code.specs.Places.{place_of}
 use Rattle.rv_code.specs.Table.{meaning_of}
 use Rattle.ev_format.specs.declared.record.Record.TheVariants as records
@@ -115,7 +114,7 @@ module _ (parts : SchemaParts) (at from : ℕ) (word : SchemaWord) (registers : 
   landing_by target values Branch = refl
   landing_by target values Jump = refl
   landing_by target values Indirect =
-      ap (λ f. is_some (cond ((f && (target % 2 == 0)) && (length values == value_count (schema_shape parts) target)) (Some (lands parts at target values (with_written (meaning_of word.raw) registers (wrap (at + 4))))) None)) same
+      ap (λ f. is_some (cond ((f && (target % 2 == 0)) && (length values == value_count (schema_shape parts) target)) (Some (lands parts at target values (with_written (meaning_of word.raw) registers (at + 4)))) None)) same
       ∙ some_cond ((target % 2 == 0) && (length values == value_count (schema_shape parts) target)) _
   landing_by target values Call = refl
   landing_by target values Stop = refl

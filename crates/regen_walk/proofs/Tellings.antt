@@ -1,7 +1,7 @@
 -- What comes of the move that gives a record.
 use Rattle.std.proofs.Common.{◌≡◌, inl, inr, ℕ, ◌+◌, ◌%◌, Bool, true, false, cond, List, [], ◌∷◌, length, Option, Some, None, refl, sym, ap, ◌∙◌}
 use Rattle.std.specs.Prelude.{◌&&◌, ◌==◌, is_some}
-use Rattle.std.specs.Option.{option_and_then, option_map, option_map_or}
+use Rattle.std.specs.Option.{option_and_then, option_map}
 use Rattle.std.proofs.lemmas.Bool.{and_parts, cases_Bool, eq-eqb, eqb-true}
 use Rattle.std.proofs.lemmas.List.{append-nil}
 use Rattle.ae_nums.specs.declared.item.Item.{Item}
@@ -9,11 +9,10 @@ use Rattle.rv_code.specs.declared.class.Class.{Class}
 use Rattle.rv_code.specs.declared.class.Class.TheVariants.{Plain, Load, Store, Branch, Jump, Indirect, Call, Stop}
 use Rattle.rv_code.specs.declared.instr.Instr.{Instr}
 use Rattle.rv_code.specs.declared.instr.Instr.TheVariants.{Ecall}
-use Rattle.rv_code.specs.Numbers.{wrap}
 use Rattle.rv_code.specs.Table.{meaning_of}
+use Rattle.rv_machine.specs.State.{with_register}
 use Rattle.ev_format.specs.declared.record.Record.TheVariants as records
 use Rattle.schema_form.specs.declared.word.SchemaWord.{SchemaWord}
-use Rattle.ae_nums.specs.Registers.{registers_of}
 use Rattle.ev_format.specs.Shapes.{value_count}
 use Rattle.schema_form.specs.LookUps.{is_indirect, schema_shape}
 use Rattle.schema_form.specs.Flags.{is_set}
@@ -29,7 +28,6 @@ use Rattle.regen_walk.specs.Inner.Going.{IsCarriedOut, items_at}
 use Rattle.regen_walk.specs.Inner.Telling.{edge_record, last_moves, may_tell}
 use Rattle.regen_walk.specs.Labels.{Label, Quiet, Tell}
 use Rattle.regen_walk.specs.Moves.{Moved, ends_at, goes_on, is_kept, lands, move_by_class, move_of, names_edge, needed_at, placed_at}
-use Rattle.regen_walk.specs.Registers.{with_value_in}
 use Rattle.regen_walk.specs.Walks.{behind_items, walk_from}
 use Rattle.regen_walk.proofs.Steps.{move_after, move_before, may_one}
 use Rattle.regen_walk.proofs.Told.{tells_edge, tells_landing, tells_no_edge}
@@ -59,18 +57,18 @@ module _ (parts : SchemaParts) (at : ℕ) (word : SchemaWord) (registers : List 
   value_there from value Jump call is = absurd (cc is)
   value_there from value Indirect call is = absurd (cc is)
   value_there from value Call call is =
-      cond_there _ (goes_on at None false (with_value_in registers 10 value)) is
+      cond_there _ (goes_on at None false (with_register registers 10 value)) is
       ∙ ap (λ (instr : Instr). Some (goes_on at (access_by instr registers) false (with_written instr registers value))) (sym (call refl))
   value_there from value Stop call is = absurd (cc is)
 
   landing_there : (from target : ℕ) (values : List ℕ) (class : Class) → is_some (move_by_class parts at word registers class (Tell (records.Landing from target values))) ≡ true
-      → move_by_class parts at word registers class (Tell (records.Landing from target values)) ≡ Some (lands parts at target values (with_written (meaning_of word.raw) registers (wrap (at + 4))))
+      → move_by_class parts at word registers class (Tell (records.Landing from target values)) ≡ Some (lands parts at target values (with_written (meaning_of word.raw) registers (at + 4)))
   landing_there from target values Plain is = absurd (cc is)
   landing_there from target values Load is = absurd (cc is)
   landing_there from target values Store is = absurd (cc is)
   landing_there from target values Branch is = absurd (cc is)
   landing_there from target values Jump is = absurd (cc is)
-  landing_there from target values Indirect is = cond_there _ (lands parts at target values (with_written (meaning_of word.raw) registers (wrap (at + 4)))) is
+  landing_there from target values Indirect is = cond_there _ (lands parts at target values (with_written (meaning_of word.raw) registers (at + 4))) is
   landing_there from target values Call is = absurd (cc is)
   landing_there from target values Stop is = absurd (cc is)
 
@@ -99,9 +97,9 @@ module _ (parts : SchemaParts) (at : ℕ) (met : Met) (is : IsMet parts at met) 
 
   pub landing_made : (from target : ℕ) (values : List ℕ) → may_tell parts at registers (records.Landing from target values) ≡ true
       → walk_from parts (Before at) registers (Tell (records.Landing from target values) ∷ [])
-      ≡ Some (lands parts at target values (with_written (meaning_of met.word.raw) registers (wrap (at + 4))))
+      ≡ Some (lands parts at target values (with_written (meaning_of met.word.raw) registers (at + 4)))
   landing_made from target values may =
-      one (Tell (records.Landing from target values)) (lands parts at target values (with_written (meaning_of met.word.raw) registers (wrap (at + 4))))
+      one (Tell (records.Landing from target values)) (lands parts at target values (with_written (meaning_of met.word.raw) registers (at + 4)))
       (landing_there parts at met.word registers from target values met.class (sym (may_one parts at met registers (Tell (records.Landing from target values)) is) ∙ may))
 
 -- the two moves over an edge that is recorded
@@ -144,10 +142,6 @@ module _ (parts : SchemaParts) (at : ℕ) (met : Met) (is : IsMet parts at met) 
       ∙ ap (λ (items : List Item). Some (record { items = items; position = placed_at parts next; registers = now })) (append-nil (items_at at access))
       ∙ ap (λ (p : Position). Some (record { items = items_at at access; position = p; registers = now })) (sym placed)
 
-count_needed : (needs : Option ℕ) → option_map_or (λ mask. length (registers_of mask)) needs 0 ≡ length (option_map_or registers_of needs [])
-count_needed None = refl
-count_needed (Some mask) = refl
-
 -- a landing has a value for each register that is needed
 pub landing_count : (parts : SchemaParts) (at : ℕ) (met : Met) (is : IsMet parts at met) (registers : List ℕ) (target : ℕ) (values : List ℕ) → may_tell parts at registers (records.Landing at target values) ≡ true
     → length values ≡ length (needed_at parts target)
@@ -155,4 +149,3 @@ landing_count parts at met is registers target values may =
     let gate = sym (tells_landing parts at met is registers at target values refl) ∙ may in
     let inner = (and_parts (is_indirect met.class) ((target % 2 == 0) && (length values == value_count (schema_shape parts) target)) gate).1 in
     eqb-true (length values) (value_count (schema_shape parts) target) (and_parts (target % 2 == 0) (length values == value_count (schema_shape parts) target) inner).1
-    ∙ count_needed ((schema_shape parts).needs target)

@@ -6,5 +6,6 @@ pub mod Walks
 pub mod FreeArcs
 pub mod WalkView
 pub mod Promises
+pub mod Regenerated
 pub mod Laws
 pub mod Inner

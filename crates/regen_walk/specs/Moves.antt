@@ -2,15 +2,16 @@
 -- can't know. Memory isn't part of it.
 use Rattle.std.specs.Prelude.{ℕ, ◌+◌, ◌%◌, ◌==◌, ◌&&◌, Bool, true, false, List, [], ◌∷◌, length, Option, Some, None, if◌then◌else◌}
 use Rattle.std.specs.Option.{option_and_then, option_map, option_map_or, option_to_list}
-use Rattle.ae_nums.specs.Registers.{registers_of}
 use Rattle.ae_nums.specs.declared.item.Item.{Item}
 use Rattle.ae_nums.specs.declared.item.Item.TheVariants.{Fetch}
 use Rattle.rv_code.specs.declared.class.Class.{Class}
 use Rattle.rv_code.specs.declared.class.Class.TheVariants.{Plain, Load, Store, Branch, Jump, Indirect, Call, Stop}
-use Rattle.rv_code.specs.Numbers.{wrap}
+use Rattle.rv_code.specs.declared.ending.Ending.TheVariants.{FetchFault, JumpMisaligned}
+use Rattle.rv_code.specs.Endings.{kind_of}
 use Rattle.rv_code.specs.Table.{meaning_of}
+use Rattle.rv_machine.specs.State.{with_register}
 use Rattle.ev_format.specs.declared.record.Record.TheVariants.{Fall, Taken, Value, Landing, End}
-use Rattle.ev_format.specs.Shapes.{value_count}
+use Rattle.ev_format.specs.Shapes.{registers_needed, value_count}
 use Rattle.schema_form.specs.declared.flags.TheConstants.{KEPT}
 use Rattle.schema_form.specs.declared.word.SchemaWord.{SchemaWord}
 use Rattle.schema_form.specs.Flags.{class_in, is_set}
@@ -21,7 +22,7 @@ use Rattle.regen_walk.specs.declared.position.Position.{Position}
 use Rattle.regen_walk.specs.declared.position.Position.TheVariants.{Before, After, Outside, Stopped}
 use Rattle.regen_walk.specs.Accesses.{access_by, may_end, with_written, carried_out_plain}
 use Rattle.regen_walk.specs.Labels.{Label, Quiet, Tell}
-use Rattle.regen_walk.specs.Registers.{with_value_in, with_values}
+use Rattle.regen_walk.specs.Registers.{with_values}
 
 -- what comes of a move, or of some: the items, and where it leads
 pub record Moved : Type 0 where
@@ -44,9 +45,9 @@ ends_at at registers = record { items = Fetch at ∷ []; position = Stopped; reg
 abbrev pub placed_at : SchemaParts → (address : ℕ) → Position
 placed_at parts address = option_map_or (λ (word : SchemaWord). Before address) (schema_word_at parts address) (Outside address)
 
--- the registers of the target's mask, of a landing
+-- the registers that are needed at a target
 abbrev pub needed_at : SchemaParts → (target : ℕ) → List ℕ
-needed_at parts target = option_map_or registers_of ((schema_shape parts).needs target) []
+needed_at parts target = registers_needed ((schema_shape parts).needs target)
 
 -- the indirect jump at an address is fetched, and lands with these values
 abbrev pub lands : SchemaParts → (at target : ℕ) → (values : List ℕ) → List ℕ → Moved
@@ -71,14 +72,14 @@ move_by_class parts at word registers Store (Tell (End from kind detail)) =
     if (from == at) && may_end (meaning_of word.raw) registers kind detail then Some (ends_at at registers) else None
 move_by_class parts at word registers Branch (Quiet taken) = Some (goes_on at None taken registers)
 move_by_class parts at word registers Jump (Quiet true) =
-    Some (goes_on at None true (with_written (meaning_of word.raw) registers (wrap (at + 4))))
+    Some (goes_on at None true (with_written (meaning_of word.raw) registers (at + 4)))
 move_by_class parts at word registers Call (Tell (Value from value)) =
-    if from == at then Some (goes_on at None false (with_value_in registers 10 value)) else None
+    if from == at then Some (goes_on at None false (with_register registers 10 value)) else None
 move_by_class parts at word registers Call (Tell (End from kind detail)) =
     if (from == at) && may_end (meaning_of word.raw) registers kind detail then Some (ends_at at registers) else None
 move_by_class parts at word registers Indirect (Tell (Landing from target values)) =
     if (from == at) && (target % 2 == 0) && (length values == value_count (schema_shape parts) target)
-    then Some (lands parts at target values (with_written (meaning_of word.raw) registers (wrap (at + 4))))
+    then Some (lands parts at target values (with_written (meaning_of word.raw) registers (at + 4)))
     else None
 move_by_class parts at word registers Stop (Tell (End from kind detail)) =
     if (from == at) && may_end (meaning_of word.raw) registers kind detail then Some (ends_at at registers) else None
@@ -101,10 +102,10 @@ move_over parts at taken word registers class label =
     (way_of taken class word.raw at)
     else None
 
--- the run ends where no code word stands: with kind 6 where that is a multiple of 4, else with kind 7
+-- the run ends where no code word stands: its fetch fails where that is a multiple of 4, else the jump there was misaligned
 abbrev pub move_outside : (target : ℕ) → List ℕ → Label → Option Moved
 move_outside target registers (Tell (End from kind detail)) =
-    if (from == 0) && (kind == (if target % 4 == 0 then 6 else 7)) && (detail == target)
+    if (from == 0) && (kind == (if target % 4 == 0 then kind_of (FetchFault target) else kind_of (JumpMisaligned target))) && (detail == target)
     then Some (record { items = []; position = Stopped; registers = registers })
     else None
 move_outside target registers (Tell (Fall from)) = None

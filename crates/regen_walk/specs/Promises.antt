@@ -1,7 +1,8 @@
 -- What `advance` promises.
-use Rattle.std.specs.Prelude.{◌≡◌, ℕ, Bool, List, take, Some, Result, Ok, Err}
+use Rattle.std.specs.Prelude.{◌≡◌, ℕ, Bool, List, Some, Result, Ok, Err}
 use Rattle.ae_nums.specs.declared.item.Item.{Item}
 use Rattle.ae_ports.specs.Fault.{HasRisen}
+use Rattle.rv_machine.specs.Outcomes.{TookFront}
 use Rattle.ev_format.specs.declared.kind.RecordKind.{RecordKind}
 use Rattle.ev_format.specs.declared.kind.RecordKind.TheVariants as kinds
 use Rattle.ev_format.specs.declared.record.Record.{Record}
@@ -36,8 +37,7 @@ pub record IsAstray (parts : SchemaParts) (position : Position) (before : WalkPa
 pub record IsBrokenOff (parts : SchemaParts) (position : Position) (before : WalkParts) (rec : Record) (took : List Item → Type 0) : Type 0 where
   pub moved : Moved
   pub tells : Tells parts position before.registers rec moved
-  pub count : ℕ
-  pub front : took (take count moved.items)
+  pub front : TookFront took moved.items
 
 -- what an advance from a position answers and leaves
 abbrev pub AdvancesFrom : SchemaParts → Position → (before : WalkParts) → Record → (took : List Item → Type 0) → (now : WalkParts) → Result Turn WalkFault → Type 0

@@ -4,6 +4,7 @@ use Rattle.rv_code.specs.Places.{place_of}
 use Rattle.regen_path.specs.declared.arcs.Ways.{Ways}
 use Rattle.regen_path.specs.Arcs.{AreWays}
 use Rattle.schema_form.specs.SchemaParts.{SchemaParts}
+use Rattle.schema_form.specs.Valid.{IsSchema}
 use Rattle.regen_walk.specs.declared.position.Position.{Position}
 use Rattle.regen_walk.specs.declared.position.Position.TheVariants.{Before, After, Outside, Stopped}
 use Rattle.regen_walk.specs.FreeArcs.{quiet_arcs}
@@ -26,6 +27,7 @@ IsPlacedBy parts Stopped place = ⊤
 
 -- the walk is one over this schema: it was started with it
 pub record IsWalkOver (parts : SchemaParts) (walk : WalkParts) : Type 0 where
+  pub valid : IsSchema parts
   pub ways : AreWays (quiet_arcs parts) (length parts.words) walk.ways
   pub placed : IsPlacedBy parts walk.position walk.place
   pub registers : length walk.registers ≡ 32

@@ -2,13 +2,13 @@
 use Rattle.std.specs.Prelude.{◌≡◌, ℕ, ◌≤◌, List, [], ◌∷◌, ◌++◌, length, Option, Some, IsSome}
 use Rattle.std.specs.Option.{option_and_then, option_map}
 use Rattle.ae_nums.specs.declared.item.Item.{Item}
+use Rattle.rv_machine.specs.Start.{first_registers}
 use Rattle.ev_format.specs.declared.record.Record.{Record}
 use Rattle.schema_form.specs.SchemaParts.{SchemaParts}
 use Rattle.regen_walk.specs.declared.position.Position.{Position}
 use Rattle.regen_walk.specs.declared.position.Position.TheVariants.{Before}
 use Rattle.regen_walk.specs.Labels.{Label, records_in}
 use Rattle.regen_walk.specs.Moves.{Moved, move_of}
-use Rattle.regen_walk.specs.Registers.{walk_registers}
 
 abbrev pub behind_items : List Item → Moved → Moved
 behind_items items moved = record moved { items = items ++ moved.items }
@@ -21,9 +21,9 @@ walk_from parts position registers (label ∷ labels) =
     (λ (first : Moved). option_map (behind_items first.items) (walk_from parts first.position first.registers labels))
     (move_of parts position registers label)
 
--- a walk begins before the entry
+-- a walk begins before the entry, with the registers of a run at its start
 abbrev pub walk_of : SchemaParts → List Label → Option Moved
-walk_of parts labels = walk_from parts (Before parts.entry) walk_registers labels
+walk_of parts labels = walk_from parts (Before parts.entry) first_registers labels
 
 -- a walk with these labels explains the records
 pub record Explains (parts : SchemaParts) (records : List Record) (labels : List Label) : Type 0 where

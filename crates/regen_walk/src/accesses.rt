@@ -4,17 +4,18 @@ ghost use Rattle.rv_code.specs.declared.class.Class.TheVariants as classes;
 ghost use Rattle.rv_code.specs.Encoding.{Fits};
 ghost use Rattle.rv_code.specs.Numbers.{wrap, unsigned};
 ghost use Rattle.rv_code.specs.Parts.{HasRegisters, class_of};
-ghost use Rattle.regen_walk.specs.Registers.{value_of};
-ghost use Rattle.regen_walk.specs.Accesses.{read_size, write_size, access_by, is_among_bytes, may_end, with_written, operands_of, carried_out_plain};
+ghost use Rattle.rv_machine.specs.Effect.{load_size, store_size};
+ghost use Rattle.rv_machine.specs.State.{register_of};
+ghost use Rattle.regen_walk.specs.Accesses.{access_by, is_among_bytes, may_end, with_written, operands_of, carried_out_plain};
 
-use crate::registers::{put_value, value_of};
+use crate::registers::{put_value, register_of};
 use ae_nums::Item;
 use rv_code::{Instr, LoadOp, StoreOp, result_of, writes};
 
 /// How many bytes a load reads.
 #[inline(always)]
-fn read_size(op: LoadOp) -> u8
-    ensures { result ≡ read_size op }
+fn load_size(op: LoadOp) -> u8
+    ensures { result ≡ load_size op }
 {
     match op {
         LoadOp::Lb | LoadOp::Lbu => 1,
@@ -25,8 +26,8 @@ fn read_size(op: LoadOp) -> u8
 
 /// How many bytes a store writes.
 #[inline(always)]
-fn write_size(op: StoreOp) -> u8
-    ensures { result ≡ write_size op }
+fn store_size(op: StoreOp) -> u8
+    ensures { result ≡ store_size op }
 {
     match op {
         StoreOp::Sb => 1,
@@ -39,9 +40,9 @@ fn write_size(op: StoreOp) -> u8
 #[inline(always)]
 fn sum_of(registers: &[u32; 32], base: u8, imm: i32) -> u32
     requires { base < 32 }
-    ensures { result ≡ wrap (value_of registers.now base + unsigned imm) }
+    ensures { result ≡ wrap (register_of registers.now base + unsigned imm) }
 {
-    value_of(registers, base).wrapping_add(imm.cast_unsigned())
+    register_of(registers, base).wrapping_add(imm.cast_unsigned())
 }
 
 /// The bytes that a load reads or a store writes, if the instruction is one.
@@ -52,11 +53,11 @@ pub fn access_by(instr: &Instr, registers: &[u32; 32]) -> Option<Item>
     match *instr {
         Instr::Load { op, rs1, imm, .. } => Some(Item::Read {
             address: sum_of(registers, rs1, imm),
-            size: read_size(op),
+            size: load_size(op),
         }),
         Instr::Store { op, rs1, imm, .. } => Some(Item::Write {
             address: sum_of(registers, rs1, imm),
-            size: write_size(op),
+            size: store_size(op),
         }),
         Instr::Lui { .. }
         | Instr::Auipc { .. }
@@ -75,7 +76,6 @@ pub fn access_by(instr: &Instr, registers: &[u32; 32]) -> Option<Item>
 /// Whether a byte is one of so many from an address on, modulo 2^32.
 #[inline(always)]
 fn is_among_bytes(address: u32, size: u8, byte: u32) -> bool
-    requires { size ≤ 4 }
     ensures { result ≡ is_among_bytes address size byte }
 {
     byte.wrapping_sub(address) < u32::from(size)
@@ -91,10 +91,10 @@ pub fn may_end(instr: &Instr, registers: &[u32; 32], kind: u32, detail: u32) -> 
         Instr::Bad(word) => kind == 2 && detail == word,
         Instr::Ebreak => kind == 3 && detail == 0,
         Instr::Load { op, rs1, imm, .. } => {
-            kind == 4 && is_among_bytes(sum_of(registers, rs1, imm), read_size(op), detail)
+            kind == 4 && is_among_bytes(sum_of(registers, rs1, imm), load_size(op), detail)
         }
         Instr::Store { op, rs1, imm, .. } => {
-            kind == 5 && is_among_bytes(sum_of(registers, rs1, imm), write_size(op), detail)
+            kind == 5 && is_among_bytes(sum_of(registers, rs1, imm), store_size(op), detail)
         }
         Instr::Lui { .. }
         | Instr::Auipc { .. }
@@ -118,6 +118,15 @@ pub fn put_written(instr: &Instr, registers: &mut [u32; 32], value: u32)
     }
 }
 
+/// Puts the address behind a word into the register that its instruction writes, if it writes one.
+#[inline(always)]
+pub fn put_link(instr: &Instr, registers: &mut [u32; 32], address: u32)
+    requires { HasRegisters instr.now }
+    ensures { registers.new ≡ with_written instr.now registers.old (address + 4) }
+{
+    put_written(instr, registers, address.wrapping_add(4));
+}
+
 /// The values of the registers that a Plain instruction takes its operands from.
 #[inline(always)]
 fn operands_of(instr: &Instr, registers: &[u32; 32]) -> (u32, u32)
@@ -125,8 +134,8 @@ fn operands_of(instr: &Instr, registers: &[u32; 32]) -> (u32, u32)
     ensures { result ≡ operands_of instr.now registers.now }
 {
     match *instr {
-        Instr::OpImm { rs1, .. } => (value_of(registers, rs1), 0),
-        Instr::Op { rs1, rs2, .. } => (value_of(registers, rs1), value_of(registers, rs2)),
+        Instr::OpImm { rs1, .. } => (register_of(registers, rs1), 0),
+        Instr::Op { rs1, rs2, .. } => (register_of(registers, rs1), register_of(registers, rs2)),
         Instr::Lui { .. }
         | Instr::Auipc { .. }
         | Instr::Jal { .. }

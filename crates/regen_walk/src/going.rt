@@ -2,15 +2,16 @@
 ghost use Rattle.std.specs.Prelude.{◌≡◌, ◌↔◌, ℕ, ◌∷◌, ◌<◌, List, Some, IfNone, IfSome, IsSome, IsTrue, OnOk, OnErr, length};
 ghost use Rattle.ae_ports.specs.Fault.{HasCause};
 ghost use Rattle.ae_nums.specs.declared.item.Item.{Item};
+ghost use Rattle.rv_machine.specs.Outcomes.{TookFront};
 ghost use Rattle.schema_form.specs.SchemaParts.{SchemaParts};
 ghost use Rattle.regen_path.specs.declared.arcs.Arc.{Arc};
 ghost use Rattle.regen_path.specs.Arcs.{AreWays, HasArc, way_from};
 ghost use Rattle.regen_path.specs.Walks.{IsWalk};
 ghost use Rattle.regen_walk.specs.FreeArcs.{kind_number, quiet_arcs};
-ghost use Rattle.regen_walk.specs.Inner.Going.{IsCarriedOut, GoesAlong, items_at, PassesOver, TakesFront};
+ghost use Rattle.regen_walk.specs.Inner.Going.{IsCarriedOut, GoesAlong, items_at, PassesOver};
 ghost use Rattle.regen_walk.specs.Inner.Met.{IsMet, IsSpot};
 
-use crate::accesses::{access_by, carry_out_plain, put_written};
+use crate::accesses::{access_by, carry_out_plain, put_link};
 use crate::arcs::kind_number;
 use crate::met::{Met, Spot, met_at};
 use ae_nums::{Item, Taker};
@@ -33,7 +34,7 @@ pub fn carry_out(address: u32, met: Met, registers: &mut [u32; 32]) -> Option<It
         }
         Class::Load | Class::Store => access_by(&decode(met.word.raw), registers),
         Class::Jump => {
-            put_written(&decode(met.word.raw), registers, address.wrapping_add(4));
+            put_link(&decode(met.word.raw), registers, address);
             None
         }
         Class::Branch | Class::Indirect | Class::Call | Class::Stop => None,
@@ -92,7 +93,7 @@ pub fn pass(
 /// Gives a taker the items of a word. After `Failed` it has a front of them.
 pub fn give<K: Taker>(items: &mut K, address: u32, access: Option<Item>) -> Result<(), Failed>
     ensures all { OnOk result (K.took items.old items.new (items_at address access)) }
-    ensures front { OnErr result (TakesFront (K.took items.old items.new) (items_at address access)) }
+    ensures front { OnErr result (TookFront (K.took items.old items.new) (items_at address access)) }
     ensures cause { HasCause (K.faults items.old) (K.faults items.new) result }
     ensures rest { K.same_rest items.old items.new }
 {
@@ -146,7 +147,7 @@ pub fn go<K: Taker>(
     ensures all { OnOk result ((walk : List Arc) → IsWalk (HasArc paths.now) from.place goal.place walk →
         (given : List Item) × GoesAlong schema.now walk from.address goal.address registers.old registers.new given × K.took items.old items.new given) }
     ensures front { OnErr result ((walk : List Arc) → IsWalk (HasArc paths.now) from.place goal.place walk →
-        (given : List Item) × (there : List ℕ) × GoesAlong schema.now walk from.address goal.address registers.old there given × TakesFront (K.took items.old items.new) given) }
+        (given : List Item) × (there : List ℕ) × GoesAlong schema.now walk from.address goal.address registers.old there given × TookFront (K.took items.old items.new) given) }
     ensures cause { HasCause (K.faults items.old) (K.faults items.new) result }
     ensures rest { K.same_rest items.old items.new }
 {

@@ -14,6 +14,7 @@ mod laws;
 mod met;
 mod position;
 mod registers;
+mod replaying;
 mod telling;
 mod turn;
 mod walk;
@@ -22,5 +23,6 @@ pub use laws::{
     explained_records_have_one_list_of_items, the_shortest_walk_ends_with_a_record,
     walks_with_the_same_records_are_one,
 };
+pub use replaying::{Halted, replay};
 pub use turn::{Turn, WalkFault};
 pub use walk::Walk;

@@ -5,8 +5,8 @@ ghost use Rattle.schema_form.specs.Rules.{way_of, witness_mark};
 ghost use Rattle.regen_walk.specs.Inner.Met.{IsMet, IsSpot};
 ghost use Rattle.regen_walk.specs.Moves.{is_kept};
 
-use rv_code::{Class, decode, falls, target};
-use schema_form::{FALL_WITNESS, KEPT, Schema, SchemaWord, TAKEN_WITNESS, class_in, is_set};
+use rv_code::Class;
+use schema_form::{KEPT, Schema, SchemaWord, class_in, is_set, way_of, witness_mark};
 
 /// A code word: its address, and its place among the code words.
 #[derive(Clone, Copy, Debug, PartialEq, Eq)]
@@ -36,8 +36,7 @@ impl Met {
     pub fn is_marked(&self, taken: bool) -> bool
         ensures { result ≡ is_set (witness_mark taken) self.now.word.flags }
     {
-        let mark = if taken { TAKEN_WITNESS } else { FALL_WITNESS };
-        is_set(mark, self.word.flags)
+        is_set(witness_mark(taken), self.word.flags)
     }
 
     /// Where a way leads from the word at an address, if it has that way.
@@ -45,14 +44,7 @@ impl Met {
     pub fn way_of(&self, taken: bool, address: u32) -> Option<u32>
         ensures { result ≡ way_of taken self.now.class self.now.word.raw address }
     {
-        if taken {
-            return target(&decode(self.word.raw), address);
-        }
-        if falls(self.class) {
-            Some(address.wrapping_add(4))
-        } else {
-            None
-        }
+        way_of(taken, self.class, self.word.raw, address)
     }
 }
 

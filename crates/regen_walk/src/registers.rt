@@ -1,13 +1,16 @@
 //! The registers of a walk.
 ghost use Rattle.std.specs.Prelude.{◌≡◌, ◌<◌, ◌≤◌, length};
 ghost use Rattle.ae_nums.specs.Registers.{registers_of};
-ghost use Rattle.regen_walk.specs.Registers.{walk_registers, value_of, with_value_in, with_values};
+ghost use Rattle.rv_machine.specs.Start.{first_registers};
+ghost use Rattle.rv_machine.specs.State.{register_of, with_register};
+ghost use Rattle.regen_walk.specs.Registers.{with_values};
 
 use ae_nums::registers_of;
 
-/// The registers at the start: as those of a run at its start.
-pub fn walk_registers() -> [u32; 32]
-    ensures { result ≡ walk_registers }
+/// The registers at the start: those of a run at its start.
+#[tactic(auto, unfolding(rv_machine::specs::Start::first_registers))]
+pub fn first_registers() -> [u32; 32]
+    ensures { result ≡ first_registers }
 {
     let mut registers = [0; 32];
     registers[2] = 0x7fff_ffc0;
@@ -16,9 +19,9 @@ pub fn walk_registers() -> [u32; 32]
 
 /// The value of a register.
 #[inline(always)]
-pub fn value_of(registers: &[u32; 32], register: u8) -> u32
+pub fn register_of(registers: &[u32; 32], register: u8) -> u32
     requires { register < 32 }
-    ensures { result ≡ value_of registers.now register }
+    ensures { result ≡ register_of registers.now register }
 {
     if register == 0 {
         0
@@ -31,7 +34,7 @@ pub fn value_of(registers: &[u32; 32], register: u8) -> u32
 #[inline(always)]
 pub fn put_value(registers: &mut [u32; 32], register: u8, value: u32)
     requires { register < 32 }
-    ensures { registers.new ≡ with_value_in registers.old register value }
+    ensures { registers.new ≡ with_register registers.old register value }
 {
     if register != 0 {
         registers[register as usize] = value;

@@ -5,40 +5,30 @@ ghost use Rattle.ae_ports.specs.Fault.{HasCause};
 ghost use Rattle.ev_format.specs.Shapes.{value_count};
 ghost use Rattle.ev_format.specs.Spelling.{address_in};
 ghost use Rattle.ev_format.specs.declared.record.Record.TheVariants as records;
-ghost use Rattle.schema_form.specs.LookUps.{schema_shape, gives_value, is_indirect};
+ghost use Rattle.schema_form.specs.LookUps.{schema_shape};
 ghost use Rattle.schema_form.specs.SchemaParts.{SchemaParts};
 ghost use Rattle.regen_walk.specs.Inner.Met.{IsMet, IsSpot};
 ghost use Rattle.regen_walk.specs.Inner.Telling.{edge_record, may_stop, may_tell, HasTold, HasBrokenOff};
 ghost use Rattle.regen_walk.specs.Moves.{needed_at, placed_at};
 ghost use Rattle.regen_walk.specs.WalkView.{IsPlacedBy};
 
-use crate::accesses::{access_by, may_end, put_written};
+use crate::accesses::{access_by, may_end, put_link, put_written};
 use crate::arcs::goes_quietly;
 use crate::going::{carry_out, give};
 use crate::met::{Met, Spot, met_at};
 use crate::position::Position;
 use crate::registers::put_values;
-use ae_nums::{Taker, registers_of};
+use ae_nums::Taker;
 use ae_ports::Failed;
-use ev_format::{Record, Shape, Values};
+use ev_format::{Record, Shape, Values, value_count};
 use rv_code::{Class, base, decode};
-use schema_form::{Schema, place_of};
+use schema_form::{Schema, gives_value, is_indirect, place_of};
 
 /// A position, and the place of the code word that it names.
 #[derive(Clone, Copy, Debug, PartialEq, Eq)]
 pub struct Stand {
     pub position: Position,
     pub place: u32,
-}
-
-/// The address of the word that a record is of.
-pub fn address_in(rec: &Record) -> u32
-    ensures { result ≡ address_in rec.now }
-{
-    match *rec {
-        Record::Fall(at) | Record::Taken(at) => at,
-        Record::Value { at, .. } | Record::Landing { at, .. } | Record::End { at, .. } => at,
-    }
 }
 
 /// Before the code word at the address, or outside where none stands there.
@@ -73,30 +63,7 @@ fn needed_at(schema: &Schema, target: u32) -> u32
 fn may_land(schema: &Schema, target: u32, values: &Values) -> bool
     ensures { result ≡ (target % 2 == 0 && length values.now == value_count (schema_shape schema.now) target) }
 {
-    target % 2 == 0 && values.words().len() == registers_of(needed_at(schema, target)).count()
-}
-
-/// Whether the word of a class gives a value.
-fn gives_value(kept: bool, class: Class) -> bool
-    ensures { result ≡ gives_value kept class }
-{
-    match class {
-        Class::Call => true,
-        Class::Load => kept,
-        Class::Plain | Class::Store | Class::Branch | Class::Jump => false,
-        Class::Indirect | Class::Stop => false,
-    }
-}
-
-/// Whether a word of the class is an indirect jump.
-fn is_indirect(class: Class) -> bool
-    ensures { result ≡ is_indirect class }
-{
-    match class {
-        Class::Indirect => true,
-        Class::Plain | Class::Load | Class::Store | Class::Branch => false,
-        Class::Jump | Class::Call | Class::Stop => false,
-    }
+    target % 2 == 0 && values.words().len() == value_count(schema, target)
 }
 
 /// Whether a run may end at a word of a class.
@@ -215,7 +182,7 @@ fn tell_landing<K: Taker>(
     ensures cause { HasCause (K.faults items.old) (K.faults items.new) result }
     ensures rest { K.same_rest items.old items.new }
 {
-    put_written(&decode(met.word.raw), registers, address.wrapping_add(4));
+    put_link(&decode(met.word.raw), registers, address);
     put_values(registers, needed_at(schema, target), values.words());
     give(items, address, None)?;
     Ok(placed_at(schema, target))

@@ -2,6 +2,7 @@
 ghost use Rattle.std.specs.Prelude.{◌≡◌, ℕ, ◌≤◌, [], List, Some, None, IfOk, IfErr, IfNone, IfSome, OnErr, OnOk, Err, length};
 ghost use Rattle.ae_ports.specs.Fault.{HasCause};
 ghost use Rattle.ev_format.specs.Spelling.{kind_in};
+ghost use Rattle.rv_machine.specs.Start.{first_registers};
 ghost use Rattle.regen_path.specs.Arcs.{AreWays};
 ghost use Rattle.regen_walk.specs.declared.position.Position.TheVariants.{Before, After, Stopped};
 ghost use Rattle.regen_walk.specs.declared.turn.WalkFault.TheVariants.{Astray};
@@ -11,7 +12,6 @@ ghost use Rattle.regen_walk.specs.Inner.Met.{IsSpot};
 ghost use Rattle.regen_walk.specs.Labels.{Tell};
 ghost use Rattle.regen_walk.specs.Moves.{Moved, move_outside};
 ghost use Rattle.regen_walk.specs.Promises.{WalkAdvances, AdvancesFrom, IsBrokenOff, IsMoved, Tells, WalkRises, turn_by};
-ghost use Rattle.regen_walk.specs.Registers.{walk_registers};
 ghost use Rattle.regen_walk.specs.WalkView.{IsWalkOver};
 
 use crate::arcs::quiet_paths;
@@ -19,8 +19,8 @@ use crate::crossing::{Crossing, edge_behind, ends_outside};
 use crate::going::{go, leads, scouted};
 use crate::met::{Spot, met_at};
 use crate::position::Position;
-use crate::registers::walk_registers;
-use crate::telling::{Stand, address_in, asks_registers, may_tell, placed_at, tell};
+use crate::registers::first_registers;
+use crate::telling::{Stand, asks_registers, may_tell, placed_at, tell};
 use crate::{Turn, WalkFault};
 use ae_nums::Taker;
 use ae_ports::Failed;
@@ -77,7 +77,7 @@ fn goal_of(
     ensures some { IfSome result (λ goal. IsGoal schema.now paths.now from registers.now rec.now goal) }
     ensures none { IfNone result ((moved : Moved) → Tells schema.now (Before from.address) registers.now rec.now moved → ⊥) }
 {
-    let address = address_in(rec);
+    let address = rec.address();
     let place = place_of(schema.stretches.as_slice(), address)?;
     if !leads(paths, from.place, place) {
         return None;
@@ -97,13 +97,13 @@ impl Walk {
     /// A walk before the schema's entry, with the registers that a run has at its start. The only error is want of memory.
     pub fn start(alloc: Global, schema: &Schema) -> Result<Walk, AllocError>
         ensures position { IfOk result (λ walk. walk.position ≡ Before schema.now.entry) }
-        ensures registers { IfOk result (λ walk. walk.registers ≡ walk_registers) }
+        ensures registers { IfOk result (λ walk. walk.registers ≡ first_registers) }
         ensures over { IfOk result (IsWalkOver schema.now) }
     {
         let paths = quiet_paths(alloc, schema)?;
         Ok(Walk {
             stand: placed_at(schema, schema.entry),
-            registers: walk_registers(),
+            registers: first_registers(),
             paths,
         })
     }
@@ -117,7 +117,7 @@ impl Walk {
         rec: &Record,
         items: &mut K,
     ) -> Result<(), Failed>
-        requires over { AreWays (quiet_arcs schema.now) (length schema.now.words) self.old.ways }
+        requires over { IsWalkOver schema.now self.old }
         requires from { IsSpot schema.now from }
         requires goal { IsGoal schema.now self.old.ways from self.old.registers rec.now goal }
         ensures all { OnOk result ((moved : Moved) × Tells schema.now (Before from.address) self.old.registers rec.now moved × IsMoved (K.took items.old items.new) self.new moved) }
@@ -139,7 +139,7 @@ impl Walk {
         rec: &Record,
         items: &mut K,
     ) -> Result<Turn, WalkFault>
-        requires over { AreWays (quiet_arcs schema.now) (length schema.now.words) self.old.ways }
+        requires over { IsWalkOver schema.now self.old }
         requires from { IsSpot schema.now from }
         ensures moves { AdvancesFrom schema.now (Before from.address) self.old rec.now (K.took items.old items.new) self.new result }
         ensures turn { IfOk result (λ turn. turn ≡ turn_by (kind_in rec.now)) }
@@ -167,7 +167,7 @@ impl Walk {
         rec: &Record,
         items: &mut K,
     ) -> Result<Turn, WalkFault>
-        requires over { AreWays (quiet_arcs schema.now) (length schema.now.words) self.old.ways }
+        requires over { IsWalkOver schema.now self.old }
         requires spot { IsSpot schema.now spot }
         ensures moves { AdvancesFrom schema.now (After spot.address taken) self.old rec.now (K.took items.old items.new) self.new result }
         ensures turn { IfOk result (λ turn. turn ≡ turn_by (kind_in rec.now)) }

@@ -1,5 +1,5 @@
 -- Going on without a record.
-use Rattle.std.specs.Prelude.{◌≡◌, ℕ, ◌≤◌, Bool, true, List, [], ◌∷◌, length, map, take, flat_map, Option, Some, ◌==◌}
+use Rattle.std.specs.Prelude.{◌≡◌, ℕ, Bool, true, List, [], ◌∷◌, map, flat_map, Option, Some, ◌==◌}
 use Rattle.std.specs.Option.{option_to_list}
 use Rattle.ae_nums.specs.declared.item.Item.{Item}
 use Rattle.ae_nums.specs.declared.item.Item.TheVariants.{Fetch}
@@ -38,7 +38,3 @@ ways_along walk = flat_map (λ (arc : Arc). (arc.kind == 1) ∷ (arc.kind == 1) 
 abbrev pub GoesAlong : SchemaParts → List Arc → (from to : ℕ) → (before now : List ℕ) → List Item → Type 0
 GoesAlong parts walk from to before now items =
     walk_from parts (Before from) before (map Quiet (ways_along walk)) ≡ Some (record { items = items; position = Before to; registers = now })
-
--- a taker took a front of these items
-abbrev pub TakesFront : (took : List Item → Type 0) → List Item → Type 0
-TakesFront took items = (count : ℕ) × (count ≤ length items) × took (take count items)

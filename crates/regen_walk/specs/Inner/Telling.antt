@@ -3,12 +3,12 @@ use Rattle.std.specs.Prelude.{◌≡◌, ℕ, Bool, true, false, List, [], ◌�
 use Rattle.ae_nums.specs.declared.item.Item.{Item}
 use Rattle.rv_code.specs.declared.class.Class.{Class}
 use Rattle.rv_code.specs.declared.class.Class.TheVariants as classes
+use Rattle.rv_machine.specs.Outcomes.{TookFront}
 use Rattle.ev_format.specs.declared.record.Record.{Record}
 use Rattle.ev_format.specs.declared.record.Record.TheVariants.{Fall, Taken, Value, Landing, End}
 use Rattle.schema_form.specs.SchemaParts.{SchemaParts}
 use Rattle.regen_walk.specs.declared.position.Position.TheVariants.{Before}
 use Rattle.regen_walk.specs.declared.telling.Stand.{Stand}
-use Rattle.regen_walk.specs.Inner.Going.{TakesFront}
 use Rattle.regen_walk.specs.Labels.{Label, Quiet, Tell}
 use Rattle.regen_walk.specs.Moves.{Moved}
 use Rattle.regen_walk.specs.Walks.{walk_from}
@@ -55,4 +55,4 @@ pub record HasTold (parts : SchemaParts) (at : ℕ) (before : List ℕ) (rec : R
 pub record HasBrokenOff (parts : SchemaParts) (at : ℕ) (before : List ℕ) (rec : Record) (took : List Item → Type 0) : Type 0 where
   pub moved : Moved
   pub made : walk_from parts (Before at) before (last_moves rec) ≡ Some moved
-  pub front : TakesFront took moved.items
+  pub front : TookFront took moved.items

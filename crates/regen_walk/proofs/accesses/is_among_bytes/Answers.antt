@@ -5,4 +5,4 @@ use Rattle.regen_walk.proofs.accesses.is_among_bytes.Goals as goal
 pub returns : goal.returns
 returns c =
     ap (λ (size : ℕ). ltb ((c.args.byte + (4294967296 - c.args.address)) % 4294967296) size) c.from.ensures
-    ∙ is_among c.args.address c.args.byte (omega (arith, c.ranges.address.fits)) (omega (arith, c.ranges.byte.fits)) c.args.size c.requires
+    ∙ is_among c.args.byte (omega (arith, c.ranges.byte.fits)) c.args.address c.args.size (omega (arith, c.ranges.address.fits))

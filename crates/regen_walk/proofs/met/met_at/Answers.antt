@@ -13,7 +13,7 @@ no_word = record { flags = 0; raw = 0; mask = 0 }
 
 pub bounds-as_slice-spot : goal.bounds-as_slice-spot
 bounds-as_slice-spot c =
-    let valid = subst IsSchema c.schema.view_is c.schema.invariant in
+    let valid = subst IsSchema c.schema.view_is c.schema.invariant.parts in
     let within = place_within c.args.schema.now valid c.args.spot c.requires in
     let same = ap length c.as_slice.ensures in
     let words = ap (λ (parts : SchemaParts). length parts.words) c.schema.view_is in
@@ -21,7 +21,7 @@ bounds-as_slice-spot c =
 
 pub unwrap-requires : goal.unwrap-requires
 unwrap-requires c =
-    let valid = subst IsSchema c.schema.view_is c.schema.invariant in
+    let valid = subst IsSchema c.schema.view_is c.schema.invariant.parts in
     let within = place_within c.args.schema.now valid c.args.spot c.requires in
     let list = c.as_slice.ensures ∙ ap (λ (parts : SchemaParts). parts.words) c.schema.view_is in
     let found = classed c.args.schema.now valid c.args.spot c.requires (get_or c.args.schema.now.words c.args.spot.place no_word) (slice_get-get_or c.args.schema.now.words c.args.spot.place no_word within) in
@@ -29,7 +29,7 @@ unwrap-requires c =
 
 pub returns : goal.returns
 returns c =
-    let valid = subst IsSchema c.schema.view_is c.schema.invariant in
+    let valid = subst IsSchema c.schema.view_is c.schema.invariant.parts in
     let within = place_within c.args.schema.now valid c.args.spot c.requires in
     let list = c.as_slice.ensures ∙ ap (λ (parts : SchemaParts). parts.words) c.schema.view_is in
     let at = ap (λ (words : List SchemaWord). slice_get words c.args.spot.place) (sym list) ∙ slice_get-get_or c.as_slice.result.now c.args.spot.place no_word (let same = ap length list in omega (arith, within, same)) in

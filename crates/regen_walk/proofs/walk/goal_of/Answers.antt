@@ -17,17 +17,17 @@ use Rattle.regen_walk.proofs.walk.goal_of.Goals as goal
 
 pub leads-requires-clause-here : goal.leads-requires-clause-here
 leads-requires-clause-here c =
-    let within = place_within c.args.schema.now (subst IsSchema c.schema.view_is c.schema.invariant) c.args.from c.requires.from in
+    let within = place_within c.args.schema.now (subst IsSchema c.schema.view_is c.schema.invariant.parts) c.args.from c.requires.from in
     omega (arith, within, c.requires.ways.long)
 
 pub returns-in_err-place-clause-none : goal.returns-in_err-place-clause-none
 returns-in_err-place-clause-none c =
     let none : (moved : Moved) → Tells c.args.schema.now (Before c.args.from.address) c.args.registers.now c.args.rec.now moved → ⊥ =
     λ moved tells.
-    let r = reaches c.args.schema.now (subst IsSchema c.schema.view_is c.schema.invariant) c.args.rec.now tells.ways c.args.from c.requires.from c.args.registers.now moved tells.made in
+    let r = reaches c.args.schema.now (subst IsSchema c.schema.view_is c.schema.invariant.parts) c.args.rec.now tells.ways c.args.from c.requires.from c.args.registers.now moved tells.made in
     let clash : Some r.goal.place ≡ None =
-    sym r.spot ∙ ap (place_of c.args.schema.now.stretches) (sym r.address ∙ sym c.address_in-address.ensures)
-    ∙ ap (λ (stretches : List Extent). place_of stretches c.address_in-address.result) (sym (c.as_slice.ensures ∙ ap (λ (parts : SchemaParts). parts.stretches) c.schema.view_is))
+    sym r.spot ∙ ap (place_of c.args.schema.now.stretches) (sym r.address ∙ sym c.address-address.ensures)
+    ∙ ap (λ (stretches : List Extent). place_of stretches c.address-address.result) (sym (c.as_slice.ensures ∙ ap (λ (parts : SchemaParts). parts.stretches) c.schema.view_is))
     ∙ sym c.in_err-place.ensures.place
     in
     cc
@@ -36,10 +36,10 @@ returns-in_err-place-clause-none c =
 
 pub returns-then-not-leads-clause-none : goal.returns-then-not-leads-clause-none
 returns-then-not-leads-clause-none c = λ moved tells.
-    let r = reaches c.args.schema.now (subst IsSchema c.schema.view_is c.schema.invariant) c.args.rec.now tells.ways c.args.from c.requires.from c.args.registers.now moved tells.made in
+    let r = reaches c.args.schema.now (subst IsSchema c.schema.view_is c.schema.invariant.parts) c.args.rec.now tells.ways c.args.from c.requires.from c.args.registers.now moved tells.made in
     let both : Some r.goal.place ≡ Some c.in_ok-place.place =
-    sym r.spot ∙ ap (place_of c.args.schema.now.stretches) (sym r.address ∙ sym c.address_in-address.ensures)
-    ∙ ap (λ (stretches : List Extent). place_of stretches c.address_in-address.result) (sym (c.as_slice.ensures ∙ ap (λ (parts : SchemaParts). parts.stretches) c.schema.view_is))
+    sym r.spot ∙ ap (place_of c.args.schema.now.stretches) (sym r.address ∙ sym c.address-address.ensures)
+    ∙ ap (λ (stretches : List Extent). place_of stretches c.address-address.result) (sym (c.as_slice.ensures ∙ ap (λ (parts : SchemaParts). parts.stretches) c.schema.view_is))
     ∙ sym c.in_ok-place.ensures.place
     in
     let place : r.goal.place ≡ c.in_ok-place.place = cc in
@@ -49,34 +49,34 @@ returns-then-not-leads-clause-none c = λ moved tells.
 
 pub returns-else-may-clause-none : goal.returns-else-may-clause-none
 returns-else-may-clause-none c = λ moved tells.
-    let r = reaches c.args.schema.now (subst IsSchema c.schema.view_is c.schema.invariant) c.args.rec.now tells.ways c.args.from c.requires.from c.args.registers.now moved tells.made in
+    let r = reaches c.args.schema.now (subst IsSchema c.schema.view_is c.schema.invariant.parts) c.args.rec.now tells.ways c.args.from c.requires.from c.args.registers.now moved tells.made in
     let both : Some r.goal.place ≡ Some c.in_ok-place.place =
-    sym r.spot ∙ ap (place_of c.args.schema.now.stretches) (sym r.address ∙ sym c.address_in-address.ensures)
-    ∙ ap (λ (stretches : List Extent). place_of stretches c.address_in-address.result) (sym (c.as_slice.ensures ∙ ap (λ (parts : SchemaParts). parts.stretches) c.schema.view_is))
+    sym r.spot ∙ ap (place_of c.args.schema.now.stretches) (sym r.address ∙ sym c.address-address.ensures)
+    ∙ ap (λ (stretches : List Extent). place_of stretches c.address-address.result) (sym (c.as_slice.ensures ∙ ap (λ (parts : SchemaParts). parts.stretches) c.schema.view_is))
     ∙ sym c.in_ok-place.ensures.place
     in
     let place : r.goal.place ≡ c.in_ok-place.place = cc in
     let has : IsWalk (HasArc c.args.paths.now) c.args.from.place r.goal.place r.walk = record { within = λ arc is. (c.requires.ways.has arc).0 (r.walks.within arc is); trail = r.walks.trail } in
     let walks : IsWalk (HasArc c.args.paths.now) c.args.from.place c.in_ok-place.place r.walk = subst (λ (p : ℕ). IsWalk (HasArc c.args.paths.now) c.args.from.place p r.walk) place has in
-    let address : r.goal.address ≡ c.address_in-address.result = sym r.address ∙ sym c.address_in-address.ensures in
-    let may : may_tell c.args.schema.now c.address_in-address.result r.there c.args.rec.now ≡ true = subst (λ (a : ℕ). may_tell c.args.schema.now a r.there c.args.rec.now ≡ true) address r.may in
-    let goes : GoesAlong c.args.schema.now r.walk c.args.from.address c.address_in-address.result c.args.registers.now r.there r.items =
+    let address : r.goal.address ≡ c.address-address.result = sym r.address ∙ sym c.address-address.ensures in
+    let may : may_tell c.args.schema.now c.address-address.result r.there c.args.rec.now ≡ true = subst (λ (a : ℕ). may_tell c.args.schema.now a r.there c.args.rec.now ≡ true) address r.may in
+    let goes : GoesAlong c.args.schema.now r.walk c.args.from.address c.address-address.result c.args.registers.now r.there r.items =
     subst (λ (a : ℕ). GoesAlong c.args.schema.now r.walk c.args.from.address a c.args.registers.now r.there r.items) address r.goes
     in
     elim c.if-asks_registers.branch [
       | then-asks_registers w ↦
           let s = w.scouted-there.ensures r.walk walks in
-          let first : Moved = record { items = r.items; position = Before c.address_in-address.result; registers = r.there } in
-          let second : Moved = record { items = s.0; position = Before c.address_in-address.result; registers = w.scouted-there.result } in
+          let first : Moved = record { items = r.items; position = Before c.address-address.result; registers = r.there } in
+          let second : Moved = record { items = s.0; position = Before c.address-address.result; registers = w.scouted-there.result } in
           let joined : Some first ≡ Some second = sym goes ∙ s.1 in
           let same : first ≡ second = cc in
           let there : r.there ≡ w.scouted-there.result = ap (λ (m : Moved). m.registers) same in
           let clash : true ≡ false =
-          sym may ∙ ap (λ (registers : List ℕ). may_tell c.args.schema.now c.address_in-address.result registers c.args.rec.now) there ∙ sym w.may_tell-may.ensures ∙ sym w.may-is ∙ c.if-may.false
+          sym may ∙ ap (λ (registers : List ℕ). may_tell c.args.schema.now c.address-address.result registers c.args.rec.now) there ∙ sym w.may_tell-may.ensures ∙ sym w.may-is ∙ c.if-may.false
           in
           absurd (cc clash)
       | else-asks_registers w ↦
-          let alone = c.asks_registers.ensures w.if-asks_registers.false c.args.schema.now c.address_in-address.result c.met_at-met.ensures c.address_in-address.ensures r.there c.args.registers.now in
+          let alone = c.asks_registers.ensures w.if-asks_registers.false c.args.schema.now c.address-address.result c.met_at-met.ensures c.address-address.ensures r.there c.args.registers.now in
           let clash : true ≡ false = sym may ∙ alone ∙ sym w.may_tell-may-else-asks_registers.ensures ∙ sym w.may-is ∙ c.if-may.false in
           absurd (cc clash)
     ]

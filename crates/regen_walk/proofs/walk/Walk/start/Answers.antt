@@ -9,4 +9,4 @@ pub returns-clause-position : goal.returns-clause-position
 returns-clause-position c =
     c.placed_at.ensures.position
     ∙ ap (λ (parts : SchemaParts). placed_at c.args.schema.now parts.entry) c.schema.view_is
-    ∙ entry_placed c.args.schema.now (subst IsSchema c.schema.view_is c.schema.invariant)
+    ∙ entry_placed c.args.schema.now (subst IsSchema c.schema.view_is c.schema.invariant.parts)
