@@ -1,56 +1,24 @@
 -- The records of an event file, one behind another.
-use Rattle.std.proofs.Common.{◌≡◌, ℕ, ◌+◌, List, [], ◌∷◌, ◌++◌, Some, Result, Ok, Err, refl, sym, ap, ◌∙◌, subst, append-nil, append_assoc}
-use Rattle.std.specs.Prelude.{IfOk, IfErr}
+use Rattle.std.proofs.Common.{◌≡◌, ℕ, List, [], ◌∷◌, ◌++◌, Result, Ok, Err, refl, sym, ap, ◌∙◌, subst, append-nil, append_assoc}
+use Rattle.std.specs.Prelude.{IfErr}
 use Rattle.ae_ports.specs.declared.failed.Failed.{Failed}
 use Rattle.ae_ports.specs.Fault.{HasCause}
-use Rattle.ev_format.specs.declared.halt.Halt.{Halt}
-use Rattle.ev_format.specs.declared.halt.Halt.TheVariants.{Stopped}
-use Rattle.ev_format.specs.declared.next.EventFault.{EventFault}
-use Rattle.ev_format.specs.declared.next.Next.{Next}
 use Rattle.ev_format.specs.declared.place.Place.{Place}
 use Rattle.ev_format.specs.declared.place.Place.TheVariants.{Start}
 use Rattle.ev_format.specs.declared.record.Record.{Record}
 use Rattle.ev_format.specs.declared.stop.Stop.{Stop}
 use Rattle.ev_format.specs.declared.stop.Stop.TheVariants.{Finished}
-use Rattle.ev_format.specs.Answers.{answer_of, IfStopped}
-use Rattle.ev_format.specs.Reading.{Reading, StopsWith, place_behind}
+use Rattle.ev_format.specs.Reading.{BeginsWith, Reading, ReadsOne, StopsWith, place_behind}
 use Rattle.ev_format.specs.Shapes.{ShapeView}
-use Rattle.ae_print.specs.EventText.{BeginsWith, IsBegunEventText, IsEventText, record_line, record_lines, stop_text}
-use Rattle.ae_print.specs.Inner.EventsRead.{IsReadTo, ReadsOne, ReadsTo}
-
--- why reading stops, by what was answered
-pub stopped_by : (records records_now : Result Place Halt) (shape : ShapeView) (bytes : List ℕ) (answer : Result Next EventFault) (stop : Stop) → answer ≡ answer_of (Stopped stop)
-    → IfOk records (λ place. (halt : Halt) → answer ≡ answer_of halt → (records_now ≡ Err halt) × IfStopped (Some bytes) (StopsWith shape place) halt)
-    → IfOk records (λ place. StopsWith shape place bytes stop)
-stopped_by (Ok place) records_now shape bytes answer stop is stopped = (stopped (Stopped stop) is).1
-stopped_by (Err halt) records_now shape bytes answer stop is stopped = tt
+use Rattle.ev_format.proofs.LawsOfReadings.{begins, reads_all, reads_one_more}
+use Rattle.ae_print.specs.EventText.{IsBegunEventText, IsEventText, record_line, record_lines, stop_text}
+use Rattle.ae_print.specs.Inner.EventsRead.{IsReadTo}
 
 record_lines-one : (records : List (ℕ × Record)) (placed : ℕ × Record) → record_lines (records ++ placed ∷ []) ≡ record_lines records ++ record_line placed
 record_lines-one [] placed = append-nil (record_line placed)
 record_lines-one (first ∷ records) placed = ap (λ (rest : List ℕ). record_line first ++ rest) (record_lines-one records placed) ∙ sym (append_assoc (record_line first) (record_lines records) (record_line placed))
 
 module _ (shape : ShapeView) where
-  reads_one_more : (place : Place) (bytes : List ℕ) (records : List (ℕ × Record)) (mid : Place) (left rest : List ℕ) (placed : ℕ × Record) → ReadsTo shape place bytes records mid left
-      → ReadsOne shape mid left rest placed → ReadsTo shape place bytes (records ++ placed ∷ []) (place_behind placed.0 placed.1) rest
-  reads_one_more place bytes [] mid left rest placed reads one =
-      subst (λ (at : Place). ReadsOne shape at left rest placed → ReadsTo shape place bytes (placed ∷ []) (place_behind placed.0 placed.1) rest) (sym reads.0)
-      (subst (λ (all : List ℕ). ReadsOne shape place all rest placed → ReadsTo shape place bytes (placed ∷ []) (place_behind placed.0 placed.1) rest) (sym reads.1)
-      (λ here. (rest, here.next, here.taken, (refl, refl))))
-      one
-  reads_one_more place bytes (first ∷ records) mid left rest placed reads one =
-      (reads.0, reads.1, reads.2, reads_one_more (place_behind first.0 first.1) reads.0 records mid left rest placed reads.3 one)
-
-  reads_all : (place : Place) (bytes : List ℕ) (records : List (ℕ × Record)) (mid : Place) (left : List ℕ) (stop : Stop) → ReadsTo shape place bytes records mid left
-      → StopsWith shape mid left stop → Reading shape place bytes records stop
-  reads_all place bytes [] mid left stop reads stops =
-      subst (λ (at : Place). StopsWith shape at bytes stop) reads.0 (subst (λ (all : List ℕ). StopsWith shape mid all stop) reads.1 stops)
-  reads_all place bytes (first ∷ records) mid left stop reads stops =
-      (reads.0, reads.1, reads.2, reads_all (place_behind first.0 first.1) reads.0 records mid left stop reads.3 stops)
-
-  begins : (place : Place) (bytes : List ℕ) (records : List (ℕ × Record)) (mid : Place) (left : List ℕ) → ReadsTo shape place bytes records mid left → BeginsWith shape place bytes records
-  begins place bytes [] mid left reads = tt
-  begins place bytes (first ∷ records) mid left reads = (reads.0, reads.1, reads.2, begins (place_behind first.0 first.1) reads.0 records mid left reads.3)
-
   -- before the first record
   pub none_read : (bytes : List ℕ) → IsReadTo shape bytes Start bytes []
   none_read bytes = record { records = []; reads = (refl, refl); is = refl }
@@ -60,7 +28,7 @@ module _ (shape : ShapeView) where
       → IsReadTo shape bytes (place_behind placed.0 placed.1) rest (text ++ line)
   one_read bytes mid left rest text line placed read one is = record {
     records = read.records ++ placed ∷ [];
-    reads = reads_one_more Start bytes read.records mid left rest placed read.reads one;
+    reads = reads_one_more shape Start bytes read.records mid left rest placed read.reads one;
     is = ap (λ (front : List ℕ). front ++ line) read.is ∙ (ap (λ (behind : List ℕ). record_lines read.records ++ behind) is ∙ sym (record_lines-one read.records placed));
   }
 
@@ -69,7 +37,7 @@ module _ (shape : ShapeView) where
       → IsEventText shape bytes stop (text ++ line)
   all_read bytes mid left text line stop read stops is = record {
     records = read.records;
-    reads = reads_all Start bytes read.records mid left stop read.reads stops;
+    reads = reads_all shape Start bytes read.records mid left stop read.reads stops;
     is = ap (λ (front : List ℕ). front ++ line) read.is ∙ ap (λ (behind : List ℕ). record_lines read.records ++ behind) is;
   }
 
@@ -77,7 +45,7 @@ module _ (shape : ShapeView) where
   pub begun : (bytes : List ℕ) (mid : Place) (left text : List ℕ) → IsReadTo shape bytes mid left text → IsBegunEventText shape bytes text
   begun bytes mid left text read = record {
     records = read.records;
-    begins = begins Start bytes read.records mid left read.reads;
+    begins = begins shape Start bytes read.records mid left read.reads;
     stop = Finished;
     is = read.is ∙ sym (append-nil (record_lines read.records));
   }
@@ -88,10 +56,6 @@ module _ (shape : ShapeView) where
 
   pub begun_all : (bytes : List ℕ) (stop : Stop) (text : List ℕ) → IsEventText shape bytes stop text → IsBegunEventText shape bytes text
   begun_all bytes stop text all = record { records = all.records; begins = begins_all Start bytes all.records stop all.reads; stop = stop; is = all.is }
-
--- what holds of the place where a reader stands
-pub at_place : (records : Result Place Halt) (place : Place) (P : Place → Type 0) → records ≡ Ok place → IfOk records P → P place
-at_place records place P is holds = subst (λ (known : Result Place Halt). IfOk known P) is holds
 
 -- what holds anyway holds after an error
 pub after_error : {T E : Type 0} (P : Type 0) (result : Result T E) → P → IfErr result (λ _. P)

@@ -1,19 +1,18 @@
 -- The text of an event file: a line for each record, with its offset. This project's own. Offsets and the kinds of endings are decimal;
 -- addresses and all other words have eight hexadecimal digits.
-use Rattle.std.specs.Prelude.{◌≡◌, ℕ, ⊤, List, [], ◌∷◌, ◌++◌, codes}
+use Rattle.std.specs.Prelude.{◌≡◌, ℕ, List, [], ◌∷◌, ◌++◌, codes}
 use Rattle.std.specs.List.{flat_map}
 use Rattle.ae_nums.specs.Decimal.{decimal_text}
 use Rattle.ae_nums.specs.Trace.{newline}
 use Rattle.ae_print.specs.Spaced.{spaced_word, spaced_words}
-use Rattle.ev_format.specs.declared.place.Place.{Place}
 use Rattle.ev_format.specs.declared.place.Place.TheVariants.{Start}
 use Rattle.ev_format.specs.declared.record.Record.{Record}
 use Rattle.ev_format.specs.declared.record.Record.TheVariants.{Fall, Taken, Value, Landing, End}
 use Rattle.ev_format.specs.declared.stop.Stop.{Stop}
 use Rattle.ev_format.specs.declared.stop.Stop.TheVariants.{Cut, Finished, OtherProgram, BadRecord}
-use Rattle.ev_format.specs.Reading.{Reading, MayBeNext, header_before, place_behind}
+use Rattle.ev_format.specs.Reading.{BeginsWith, Reading}
 use Rattle.ev_format.specs.Shapes.{ShapeView}
-use Rattle.ev_format.specs.Spelling.{address_in, record_bytes}
+use Rattle.ev_format.specs.Spelling.{address_in}
 
 abbrev pub record_name : Record → List ℕ
 record_name (Fall at) = codes " fall"
@@ -57,15 +56,6 @@ pub record IsEventText (shape : ShapeView) (bytes : List ℕ) (stop : Stop) (tex
   pub records : List (ℕ × Record)
   pub reads : Reading shape Start bytes records stop
   pub is : text ≡ record_lines records ++ stop_text stop
-
--- from a place on these records stand at the front of the bytes, whatever is read behind them
-abbrev pub BeginsWith : ShapeView → Place → List ℕ → List (ℕ × Record) → Type 0
-BeginsWith shape place bytes [] = ⊤
-BeginsWith shape place bytes ((offset, rec) ∷ records) =
-    (rest : List ℕ)
-    × MayBeNext shape place offset rec
-    × (bytes ≡ header_before shape place ++ record_bytes rec ++ rest)
-    × BeginsWith shape (place_behind offset rec) rest records
 
 -- the lines of the first so many records, with the last line where the file is cut behind them
 pub record IsBegunEventText (shape : ShapeView) (bytes : List ℕ) (text : List ℕ) : Type 0 where

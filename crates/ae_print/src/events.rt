@@ -3,10 +3,7 @@ ghost use Rattle.std.specs.Prelude.{◌≡◌, ◌≤◌, true, ◌∷◌, OnOk,
 ghost use Rattle.ae_nums.specs.Writer.{Puts};
 ghost use Rattle.ae_ports.specs.Content.{Appends, AppendsFront};
 ghost use Rattle.ae_ports.specs.Fault.{HasCause};
-ghost use Rattle.ev_format.specs.Reading.{place_behind, StopsWith};
-ghost use Rattle.ev_format.specs.Spelling.{address_in};
 ghost use Rattle.ae_print.specs.EventText.{IsBegunEventText, IsEventText, end_text, further_text, record_front, record_line, record_name, stop_text};
-ghost use Rattle.ae_print.specs.Inner.EventsRead.{ReadsOne};
 ghost use Rattle.ae_print.specs.Inner.SomePut.{PutsSome};
 ghost use Rattle.ae_print.specs.SomeText.{AppendsFrontOfSome, AppendsSome};
 ghost use Rattle.ae_print.specs.Spaced.{spaced_word, spaced_words};
@@ -15,7 +12,7 @@ use crate::pieces::{push_number, push_word};
 use crate::spaced::{spaced_word, write_spaced};
 use ae_nums::{LineWriter, Text};
 use ae_ports::{Failed, Sink, SteadySource};
-use ev_format::{EventFault, Next, Record, Records, Shape, Stop};
+use ev_format::{Record, Records, Shape, Stop};
 
 /// What an ending's record has behind its address.
 fn text_of_end(kind: u32, detail: u32) -> Text
@@ -65,19 +62,6 @@ fn name_of(rec: &Record) -> &'static [u8]
     }
 }
 
-/// The address of a record.
-fn address_of(rec: &Record) -> u32
-    ensures { result ≡ address_in rec.now }
-{
-    match rec {
-        Record::Fall(at)
-        | Record::Taken(at)
-        | Record::Value { at, .. }
-        | Record::Landing { at, .. }
-        | Record::End { at, .. } => *at,
-    }
-}
-
 /// The front of a record's line, up to its address.
 fn front_of(offset: u64, name: &[u8], address: u32) -> Text
     requires { length name.now ≤ 8 }
@@ -98,7 +82,7 @@ fn write_record<K: Sink>(
 ) -> Result<(), Failed>
     ensures { Puts K.told K.faults K.same_rest lines.old lines.new (record_line (offset, rec.now)) result }
 {
-    lines.write(front_of(offset, name_of(rec), address_of(rec)).bytes())?;
+    lines.write(front_of(offset, name_of(rec), rec.address()).bytes())?;
     write_further(rec, lines)?;
     lines.write(b"\n")
 }
@@ -113,27 +97,6 @@ pub fn print_record<K: Sink>(offset: u64, rec: &Record, sink: &mut K) -> Result<
     let mut lines = LineWriter::new(sink);
     write_record(offset, rec, &mut lines)?;
     lines.finish()
-}
-
-/// The next record and its offset, or why there is none.
-fn read_one<H: Shape>(
-    records: &mut Records,
-    shape: &H,
-    events: &mut SteadySource,
-) -> Result<(u64, Record), Stop>
-    requires { IsOk records.old }
-    ensures whole { IfOk records.old (λ place. IfOk result (λ placed.
-        ReadsOne (H.shown shape.now) place events.old events.new placed × (records.new ≡ Ok (place_behind placed.0 placed.1)))) }
-    ensures stopped { IfOk records.old (λ place. IfErr result (StopsWith (H.shown shape.now) place events.old)) }
-{
-    match records.next(shape, events) {
-        Ok(Next::Whole { offset, rec }) => Ok((offset, rec)),
-        Ok(Next::Cut) => Err(Stop::Cut),
-        Ok(Next::Finished) => Err(Stop::Finished),
-        Err(EventFault::OtherProgram) => Err(Stop::OtherProgram),
-        Err(EventFault::BadRecord { offset }) => Err(Stop::BadRecord { offset }),
-        Err(EventFault::SourceFault) => unreachable!(),
-    }
 }
 
 /// Writes the last line, where the file is cut.
@@ -158,7 +121,7 @@ fn write_events<H: Shape, K: Sink>(
 {
     let mut records = Records::start();
     loop {
-        match read_one(&mut records, shape, events) {
+        match records.read(shape, events) {
             Ok((offset, rec)) => write_record(offset, &rec, lines)?,
             Err(stop) => {
                 write_stop(stop, lines)?;

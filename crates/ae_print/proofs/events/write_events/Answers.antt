@@ -1,11 +1,12 @@
 use Rattle.std.proofs.Common.{◌≡◌, ℕ, List, [], Ok, refl}
 use Rattle.ev_format.specs.declared.place.Place.{Place}
 use Rattle.ev_format.specs.declared.place.Place.TheVariants.{Start}
-use Rattle.ev_format.specs.Reading.{StopsWith, place_behind}
+use Rattle.ev_format.specs.Reading.{ReadsOne, StopsWith, place_behind}
+use Rattle.ev_format.proofs.LawsOfReadings.{at_place}
 use Rattle.ae_nums.proofs.LawsOfWriters.{Puts-none}
 use Rattle.ae_print.specs.EventText.{IsBegunEventText, IsEventText, record_line, stop_text}
-use Rattle.ae_print.specs.Inner.EventsRead.{IsReadTo, ReadsOne}
-use Rattle.ae_print.proofs.EventsRead.{after_error, all_read, at_place, begun, begun_all, none_read, one_read}
+use Rattle.ae_print.specs.Inner.EventsRead.{IsReadTo}
+use Rattle.ae_print.proofs.EventsRead.{after_error, all_read, begun, begun_all, none_read, one_read}
 use Rattle.ae_print.proofs.Lines.{puts_anyway, some_both}
 use Rattle.ae_print.proofs.events.write_events.Goals as goal
 
@@ -19,11 +20,11 @@ loop-offset-preserved g c =
     let shape = g.H.Shape.shown c.args.shape.now in
     let all = c.args.events.now in
     let left = c.loop-offset.events in
-    let rest = c.read_one.new.events in
+    let rest = c.read.new.source in
     let place : Place = c.loop-offset.invariant.0 in
     let next : Place = place_behind c.in-Ok.offset c.in-Ok.rec in
     let line : List ℕ = record_line (c.in-Ok.offset, c.in-Ok.rec) in
-    let one = at_place c.loop-offset.records place (λ at. ReadsOne shape at left rest (c.in-Ok.offset, c.in-Ok.rec) × (c.read_one.new.records ≡ Ok next)) c.loop-offset.invariant.1
+    let one = at_place c.loop-offset.records place (λ at. ReadsOne shape at left rest (c.in-Ok.offset, c.in-Ok.rec) × (c.read.new.self ≡ Ok next)) c.loop-offset.invariant.1
     c.in-Ok.ensures.whole in (
       next,
       one.1,
@@ -37,11 +38,11 @@ returns-in_err-write_record-in-Ok-clause-front g c =
     let shape = g.H.Shape.shown c.args.shape.now in
     let all = c.args.events.now in
     let left = c.loop-offset.events in
-    let rest = c.read_one.new.events in
+    let rest = c.read.new.source in
     let place : Place = c.loop-offset.invariant.0 in
     let next : Place = place_behind c.in-Ok.offset c.in-Ok.rec in
     let line : List ℕ = record_line (c.in-Ok.offset, c.in-Ok.rec) in
-    let one = at_place c.loop-offset.records place (λ at. ReadsOne shape at left rest (c.in-Ok.offset, c.in-Ok.rec) × (c.read_one.new.records ≡ Ok next)) c.loop-offset.invariant.1
+    let one = at_place c.loop-offset.records place (λ at. ReadsOne shape at left rest (c.in-Ok.offset, c.in-Ok.rec) × (c.read.new.self ≡ Ok next)) c.loop-offset.invariant.1
     c.in-Ok.ensures.whole in
     after_error _ c.from_residual.result (some_both g.met.K.Sink.rest_joins _ _ _ (IsReadTo shape all place left) (λ written. written ≡ line) (IsBegunEventText shape all)
     (λ text written read is. begun shape all next rest _ (one_read shape all place left rest text written (c.in-Ok.offset, c.in-Ok.rec) read one.0 is))
