@@ -13,6 +13,7 @@ use Rattle.ae_top.specs.declared.status.Status.{Status}
 use Rattle.ae_top.specs.NoFile.{status_without}
 use Rattle.ae_top.specs.SchemaFile.{status_without_schema}
 use Rattle.ae_top.specs.Running.{status_of}
+use Rattle.ae_top.specs.Inner.Command.{Carries}
 use Rattle.ae_top.specs.Inner.Machine.{BlamesStreams}
 use Rattle.ae_top.specs.World.{World, Blames, BlamesDevices}
 
@@ -175,3 +176,25 @@ without_schema_used (NoSchema.Bad fault) word is = is
 
 pub schema_unused : (why : NoSchema) (word : ℕ) → status_without_schema why word ≡ Status.Usage → ⊥
 schema_unused why word is = without_schema_used why word (subst IsUsage (sym is) tt)
+
+-- statuses for which neither the words nor a stream are to blame
+abbrev pub OfStore : Status → Type 0
+OfStore Status.Usage = ⊥
+OfStore Status.InputFault = ⊥
+OfStore Status.OutFault = ⊥
+OfStore Status.ErrFault = ⊥
+OfStore _ = ⊤
+
+pub carries_of_store : (promise : Type 0) (status : Status) (before now : World) → OfStore status → now.streams ≡ before.streams
+    → Blames (status ≡ Status.StoreFault) before.store.faults now.store.faults → promise → Carries promise status before now
+carries_of_store promise status before now of same store keeps =
+    record {
+      keeps = keeps;
+      blames = record {
+        store = store;
+        input = unblamed (status ≡ Status.InputFault) before.streams.input.faults now.streams.input.faults (λ is. subst OfStore is of) (ap (λ s. s.input.faults) same);
+        out = unblamed (status ≡ Status.OutFault) before.streams.out.faults now.streams.out.faults (λ is. subst OfStore is of) (ap (λ s. s.out.faults) same);
+        err = unblamed (status ≡ Status.ErrFault) before.streams.err.faults now.streams.err.faults (λ is. subst OfStore is of) (ap (λ s. s.err.faults) same);
+      };
+      used = λ is. subst OfStore is of;
+    }

@@ -2,13 +2,14 @@
 use Rattle.std.proofs.Common.{◌≡◌, subst, ℕ, List, [], Option, Some, slice_index_or, sym}
 use Rattle.ae_top.specs.declared.status.Status.{Status}
 use Rattle.ae_top.specs.declared.task.Task.{Task}
-use Rattle.ae_top.specs.declared.task.Task.TheVariants.{Run, Plain, Print, PrintSchema, PrintEvents}
+use Rattle.ae_top.specs.declared.task.Task.TheVariants.{Run, Plain, Print, PrintSchema, PrintEvents, Regenerate}
 use Rattle.ae_top.specs.declared.task.PrintKind.{PrintKind}
 use Rattle.ae_top.specs.Inner.Command.{Carries}
 use Rattle.ae_top.specs.Plain.{KeepsPlain}
 use Rattle.ae_top.specs.Printing.{KeepsPrint}
 use Rattle.ae_top.specs.PrintEvents.{KeepsPrintEvents}
 use Rattle.ae_top.specs.PrintSchema.{KeepsPrintSchema}
+use Rattle.ae_top.specs.Regenerate.{KeepsRegenerate}
 use Rattle.ae_top.specs.Run.{KeepsRun}
 use Rattle.ae_top.specs.Task.{task_in}
 use Rattle.ae_top.specs.Top.{Keeps, CarriesOut}
@@ -60,3 +61,14 @@ events_carried words schema_place events_place schema events status before now i
     carried words (PrintEvents schema_place events_place) status before now is
     (subst (λ (schema : List ℕ). Carries (KeepsPrintEvents schema_place schema events_place (slice_index_or words events_place []) status before now) status before now) schema_named
     (subst (λ (events : List ℕ). Carries (KeepsPrintEvents schema_place schema events_place events status before now) status before now) events_named carries))
+
+pub regenerate_carried : (words : List (List ℕ)) (schema_place events_place trace_place : ℕ) (schema events trace : List ℕ) (status : Status) (before now : World)
+    → task_in words ≡ Some (Regenerate schema_place events_place trace_place)
+    → schema ≡ slice_index_or words schema_place [] → events ≡ slice_index_or words events_place [] → trace ≡ slice_index_or words trace_place []
+    → Carries (KeepsRegenerate schema_place schema events_place events trace status before now) status before now → CarriesOut words status before now
+regenerate_carried words schema_place events_place trace_place schema events trace status before now is schema_named events_named trace_named carries =
+    let events_of = slice_index_or words events_place [] in
+    carried words (Regenerate schema_place events_place trace_place) status before now is
+    (subst (λ (schema : List ℕ). Carries (KeepsRegenerate schema_place schema events_place events_of (slice_index_or words trace_place []) status before now) status before now) schema_named
+    (subst (λ (events : List ℕ). Carries (KeepsRegenerate schema_place schema events_place events (slice_index_or words trace_place []) status before now) status before now) events_named
+    (subst (λ (trace : List ℕ). Carries (KeepsRegenerate schema_place schema events_place events trace status before now) status before now) trace_named carries)))

@@ -4,12 +4,15 @@ pub mod FilesBehind
 pub mod FromItsGraph
 pub mod Fronts
 pub mod Kept
+pub mod EventsBehind
 pub mod KeptEvents
+pub mod KeptRegenerated
 pub mod KeptSchema
 pub mod KeptTop
 pub mod Named
 pub mod Printed
 pub mod Ran
+pub mod Regenerated
 pub mod Shown
 pub mod ToldBehind
 pub mod TooLong

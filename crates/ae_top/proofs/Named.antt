@@ -22,6 +22,7 @@ Within count (Task.Plain prog trace fuel) = (prog < count) × (trace < count)
 Within count (Task.Print kind file) = file < count
 Within count (Task.PrintSchema file) = file < count
 Within count (Task.PrintEvents schema events) = (schema < count) × (events < count)
+Within count (Task.Regenerate schema events trace) = (schema < count) × (events < count) × (trace < count)
 
 -- the same of the task of a command
 abbrev Names : ℕ → Option Command → Type 0
@@ -77,12 +78,13 @@ rewrite_of_named count (prog ∷ new ∷ []) = tt
 rewrite_of_named count (prog ∷ new ∷ schema ∷ []) = where_so count (are_file_words (prog ∷ new ∷ schema ∷ [])) (Some (Rewrite 1 2 3)) tt
 rewrite_of_named count (prog ∷ new ∷ schema ∷ more ∷ rest) = tt
 
-regenerate_of_named : (count : ℕ) (words : List (List ℕ)) → Names count (regenerate_command words)
-regenerate_of_named count [] = tt
-regenerate_of_named count (schema ∷ []) = tt
-regenerate_of_named count (schema ∷ events ∷ []) = tt
-regenerate_of_named count (schema ∷ events ∷ trace ∷ []) = where_so count (are_file_words (schema ∷ events ∷ trace ∷ [])) (Some (Regenerate 1 2 3)) tt
-regenerate_of_named count (schema ∷ events ∷ trace ∷ more ∷ rest) = tt
+regenerate_of_named : (count : ℕ) (words : List (List ℕ)) → length words < count → Names count (regenerate_command words)
+regenerate_of_named count [] h = tt
+regenerate_of_named count (schema ∷ []) h = tt
+regenerate_of_named count (schema ∷ events ∷ []) h = tt
+regenerate_of_named count (schema ∷ events ∷ trace ∷ []) h =
+    where_so count (are_file_words (schema ∷ events ∷ trace ∷ [])) (Some (Regenerate 1 2 3)) (omega arith, omega arith, h)
+regenerate_of_named count (schema ∷ events ∷ trace ∷ more ∷ rest) h = tt
 
 profile_of_named : (count : ℕ) (words : List (List ℕ)) → Names count (profile_command words)
 profile_of_named count [] = tt
@@ -129,7 +131,7 @@ named (name ∷ words) =
     either count (bytes_eq name (codes "run")) _ _ (run_of_named count words fewer)
     (either count (bytes_eq name (codes "plain")) _ _ (plain_of_named count words fewer)
     (either count (bytes_eq name (codes "rewrite")) _ _ (rewrite_of_named count words)
-    (either count (bytes_eq name (codes "regenerate")) _ _ (regenerate_of_named count words)
+    (either count (bytes_eq name (codes "regenerate")) _ _ (regenerate_of_named count words fewer)
     (either count (bytes_eq name (codes "profile")) _ _ (profile_of_named count words)
     (either count (bytes_eq name (codes "print")) _ _ (print_of_named count words fewer)
     (either count (bytes_eq name (codes "sample")) _ _ (sample_of_named count words)
@@ -151,3 +153,7 @@ schema_named_word words file is = subst (λ (task : Option Task). MatchOption ta
 pub events_named_words : (words : List (List ℕ)) (schema events : ℕ) → task_in words ≡ Some (Task.PrintEvents schema events)
     → (schema < length words) × (events < length words)
 events_named_words words schema events is = subst (λ (task : Option Task). MatchOption task ⊤ (Within (length words))) is (named words)
+
+pub regenerate_named_words : (words : List (List ℕ)) (schema events trace : ℕ) → task_in words ≡ Some (Task.Regenerate schema events trace)
+    → (schema < length words) × (events < length words) × (trace < length words)
+regenerate_named_words words schema events trace is = subst (λ (task : Option Task). MatchOption task ⊤ (Within (length words))) is (named words)

@@ -3,8 +3,7 @@ use Rattle.std.proofs.Common.{◌≡◌, ℕ, List, length, Option, None, Some, 
 use Rattle.std.specs.Prelude.{⊤, MatchOption, IsSome}
 use Rattle.std.specs.Option.{option_map}
 use Rattle.ae_ports.specs.Files.{Files, IsThere, SameFiles, HasBytes, TellsSize}
-use Rattle.ae_top.specs.declared.inputs.NotRead.{NotRead}
-use Rattle.ae_top.specs.Inputs.{IsNotRead}
+use Rattle.ae_top.specs.Inputs.{IsAbsent}
 
 -- what holds of the file of this name, if one is there, where the files are told
 abbrev OfName : Option Files → List ℕ → (Option (List ℕ) → Type 0) → Type 0
@@ -37,9 +36,10 @@ there_before before now name same is = name_before IsSome before now name same i
 pub bytes_before : (before now : Option Files) (name bytes : List ℕ) → SameFiles before now → HasBytes now name bytes → HasBytes before name bytes
 bytes_before before now name bytes same is = name_before (λ file. file ≡ Some bytes) before now name same is
 
-pub unread_before : (before now : Option Files) (name : List ℕ) (limit : ℕ) (why : NotRead) → SameFiles before now
-    → IsNotRead now name limit why → IsNotRead before name limit why
-unread_before before now name limit NotRead.Missing same is = name_before (λ file. file ≡ None) before now name same is
-unread_before before now name limit NotRead.StoreFault same is = tt
-unread_before before now name limit NotRead.TooLong same is = (is.0, bytes_before before now name is.0 same is.1, is.2)
-unread_before before now name limit NotRead.NoMemory same is = (is.0, bytes_before before now name is.0 same is.1, is.2)
+pub absent_before : (before now : Option Files) (name : List ℕ) → SameFiles before now → IsAbsent now name → IsAbsent before name
+absent_before before now name same is = name_before (λ file. file ≡ None) before now name same is
+
+-- each file is as it is
+pub same_files : (told : Option Files) → SameFiles told told
+same_files None = tt
+same_files (Some files) = λ name. refl

@@ -6,5 +6,5 @@ pub mod Machine
 pub mod Printing
 pub mod FromGraph
 pub mod Reading
-pub mod PrintEvents
+pub mod EventFiles
 pub mod Tracing

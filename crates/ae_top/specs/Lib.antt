@@ -12,6 +12,8 @@ pub mod Run
 pub mod Plain
 pub mod Printing
 pub mod PrintSchema
+pub mod EventFiles
 pub mod PrintEvents
+pub mod Regenerate
 pub mod Top
 pub mod Inner

@@ -14,7 +14,7 @@ use Rattle.elf_raw.specs.declared.fault.ElfFault.TheVariants.{NotElf, NotElf32Le
 use Rattle.schema_form.specs.declared.fault.SchemaFault.{SchemaFault}
 use Rattle.schema_form.specs.declared.fault.SchemaFault.TheVariants.{NotSchema, BadEntry, NotAForest}
 use Rattle.ae_top.specs.declared.events_refusal.EventsRefusal.{EventsRefusal}
-use Rattle.ae_top.specs.declared.events_refusal.EventsRefusal.TheVariants.{OtherProgram, BadRecord}
+use Rattle.ae_top.specs.declared.events_refusal.EventsRefusal.TheVariants.{OtherProgram, BadRecord, Astray}
 use Rattle.ae_top.specs.declared.refusal.Refusal.{Refusal}
 use Rattle.ae_top.specs.declared.refusal.Refusal.TheVariants.{Elf, Image}
 use Rattle.ae_top.specs.declared.status.Status.{Status}
@@ -70,11 +70,13 @@ schema_refusal_detail SchemaFault.NoMemory = []
 abbrev pub events_refusal_text : EventsRefusal → List ℕ
 events_refusal_text OtherProgram = codes "ae: events other program"
 events_refusal_text (BadRecord offset) = codes "ae: events bad record at "
+events_refusal_text (Astray offset) = codes "ae: events astray at "
 
 -- the offset
 abbrev pub events_refusal_detail : EventsRefusal → List ℕ
 events_refusal_detail OtherProgram = []
 events_refusal_detail (BadRecord offset) = decimal_text offset
+events_refusal_detail (Astray offset) = decimal_text offset
 
 -- what a status says, before the name or number that it has
 abbrev pub status_text : Status → List ℕ

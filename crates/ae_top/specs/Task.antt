@@ -1,6 +1,6 @@
 -- The commands that are carried out today: `run PROG` and `plain PROG TRACE`, each with the option of its fuel, and
--- `print elf FILE`, `print code FILE`, `print graph FILE`, `print needs FILE`, `print slice FILE`, `print schema FILE` and
--- `print events SCHEMA EVENTS`. All other words are answered as if they spelled no command.
+-- `print elf FILE`, `print code FILE`, `print graph FILE`, `print needs FILE`, `print slice FILE`, `print schema FILE`,
+-- `print events SCHEMA EVENTS` and `regenerate SCHEMA EVENTS TRACE`. All other words are answered as if they spelled no command.
 use Rattle.std.specs.Prelude.{ℕ, List, Option, None, Some}
 use Rattle.std.specs.Option.{option_and_then}
 use Rattle.ae_words.specs.declared.command.Command.{Command}
@@ -22,7 +22,7 @@ task_of (Run prog None fuel (Some dump)) = None
 task_of (Run prog (Some events) fuel dump) = None
 task_of (Plain prog trace fuel) = Some (Task.Plain prog trace (fuel_of fuel))
 task_of (Rewrite prog new schema) = None
-task_of (Regenerate schema events trace) = None
+task_of (Regenerate schema events trace) = Some (Task.Regenerate schema events trace)
 task_of (Profile schema events) = None
 task_of (PrintElf file) = Some (Task.Print Elf file)
 task_of (PrintCode file) = Some (Task.Print Code file)

@@ -1,26 +1,21 @@
 -- What the top call promises.
 use Rattle.std.specs.Prelude.{◌≡◌, ◌↔◌, ℕ, ◌≤◌, List, [], Option, None, Some, slice_index_or}
 use Rattle.ae_ports.specs.Fault.{HasRisen}
-use Rattle.ae_ports.specs.Files.{SameFiles}
 use Rattle.rv_code.specs.declared.ending.Ending.{Ending}
 use Rattle.ae_top.specs.declared.status.Status.{Status}
 use Rattle.ae_top.specs.declared.status.Status.TheVariants.{Done, Usage, StoreFault, InputFault, OutFault, ErrFault, Faulted}
 use Rattle.ae_top.specs.declared.task.Task.{Task}
-use Rattle.ae_top.specs.declared.task.Task.TheVariants.{Run, Plain, Print, PrintSchema, PrintEvents}
+use Rattle.ae_top.specs.declared.task.Task.TheVariants.{Run, Plain, Print, PrintSchema, PrintEvents, Regenerate}
 use Rattle.ae_top.specs.Plain.{KeepsPlain}
 use Rattle.ae_top.specs.Printing.{KeepsPrint}
 use Rattle.ae_top.specs.PrintEvents.{KeepsPrintEvents}
 use Rattle.ae_top.specs.PrintSchema.{KeepsPrintSchema}
+use Rattle.ae_top.specs.Regenerate.{KeepsRegenerate}
 use Rattle.ae_top.specs.Run.{KeepsRun}
 use Rattle.ae_top.specs.Status.{exit_code_of}
 use Rattle.ae_top.specs.StatusLines.{LineBehind}
 use Rattle.ae_top.specs.Task.{task_in}
-use Rattle.ae_top.specs.World.{Port, World, Blames, BlamesDevices}
-
--- nothing was done
-pub record KeepsAll (before now : World) : Type 0 where
-  pub streams : now.streams ≡ before.streams
-  pub files : SameFiles before.store.told now.store.told
+use Rattle.ae_top.specs.World.{Port, World, Blames, BlamesDevices, KeepsAll}
 
 -- what is promised of what was asked for, up to the line of the status
 abbrev pub Keeps : Option Task → (words : List (List ℕ)) → Status → (before now : World) → Type 0
@@ -34,6 +29,8 @@ Keeps (Some (Print kind file)) words status before now =
 Keeps (Some (PrintSchema file)) words status before now = KeepsPrintSchema file (slice_index_or words file []) status before now
 Keeps (Some (PrintEvents schema events)) words status before now =
     KeepsPrintEvents schema (slice_index_or words schema []) events (slice_index_or words events []) status before now
+Keeps (Some (Regenerate schema events trace)) words status before now =
+    KeepsRegenerate schema (slice_index_or words schema []) events (slice_index_or words events []) (slice_index_or words trace []) status before now
 
 -- What the words ask for was carried out, up to the line of the status: its promise is kept, a device's fault is the status
 -- only where that device failed, and only words that ask for nothing are `Usage`.

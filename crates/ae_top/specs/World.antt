@@ -1,7 +1,7 @@
 -- The outside at one moment: what each device tells, and its count of faults. And whose fault a status is.
 use Rattle.std.specs.Prelude.{◌≡◌, ℕ, ◌≤◌, List, Option}
 use Rattle.ae_ports.specs.Fault.{HasRisen}
-use Rattle.ae_ports.specs.Files.{Files}
+use Rattle.ae_ports.specs.Files.{Files, SameFiles}
 use Rattle.ae_top.specs.declared.status.Status.{Status}
 use Rattle.ae_top.specs.declared.status.Status.TheVariants.{StoreFault, InputFault, OutFault, ErrFault}
 
@@ -30,6 +30,11 @@ streams input out err = record { input = input; out = out; err = err }
 
 abbrev pub world : (store : Port Files) → (input out err : Port (List ℕ)) → World
 world store input out err = record { store = store; streams = streams input out err }
+
+-- nothing was done
+pub record KeepsAll (before now : World) : Type 0 where
+  pub streams : now.streams ≡ before.streams
+  pub files : SameFiles before.store.told now.store.told
 
 -- A device's count of faults, before and now, beside whether its fault was answered: the count has risen where it was,
 -- and is as before where it wasn't. It doesn't fall.

@@ -1,40 +1,22 @@
-//! Files that a command reads whole: asking for one, and then reading it.
-ghost use Rattle.std.specs.Prelude.{◌≡◌, ◌≤◌, ℕ, Ok, Some, length, IfOk, IfErr, IsErrOf};
+//! Files that a command reads whole.
+ghost use Rattle.std.specs.Prelude.{◌≤◌, Ok, Some, length, IfOk, IfErr, IsErrOf};
 ghost use Rattle.ae_ports.specs.Files.{SameFiles, HasBytes, TellsSize};
 ghost use Rattle.ae_top.specs.Inputs.{IsNotRead};
 ghost use Rattle.ae_top.specs.World.{Blames};
 
 use crate::reading::{ReadFault, read_file};
-use ae_ports::{Failed, Store, Word};
+use ae_ports::{Store, Word};
 use std::alloc::Global;
 
-/// Why a file isn't read.
+/// Why a file that is there isn't read.
 #[derive(Clone, Copy, Debug, PartialEq, Eq)]
 pub enum NotRead {
-    /// It isn't there.
-    Missing,
     /// The store failed.
     StoreFault,
     /// It is longer than it may be. Nothing of it was read.
     TooLong,
     /// Memory was wanting.
     NoMemory,
-}
-
-/// The size of a file, in bytes.
-pub fn size_of<S: Store>(store: &mut S, name: &Word) -> Result<u64, NotRead>
-    ensures size { IfOk result (λ size. TellsSize (S.told store.old) name.now (Ok (Some size))) }
-    // Whatever its limit is.
-    ensures lacks { (limit : ℕ) → IfErr result (IsNotRead (S.told store.old) name.now limit) }
-    ensures blames { Blames (IsErrOf result NotRead.StoreFault) (S.faults store.old) (S.faults store.new) }
-    ensures files { SameFiles (S.told store.old) (S.told store.new) }
-    ensures rest { S.same_rest store.old store.new }
-{
-    match store.size(name) {
-        Ok(Some(size)) => Ok(size),
-        Ok(None) => Err(NotRead::Missing),
-        Err(Failed) => Err(NotRead::StoreFault),
-    }
 }
 
 /// The bytes of a file of this size, of which there may be as many as the limit says.

@@ -3,6 +3,7 @@
 #![tactic(auto)]
 
 mod ending_lines;
+mod event_files;
 mod events_refusal;
 mod exit;
 mod finishing;
@@ -18,6 +19,7 @@ mod program;
 mod reading;
 mod refusal;
 mod refusal_lines;
+mod regenerate;
 mod run;
 mod schema_file;
 mod status;

@@ -97,6 +97,7 @@ pub fn events_refusal_text(refusal: EventsRefusal) -> &'static [u8]
     match refusal {
         EventsRefusal::OtherProgram => b"ae: events other program",
         EventsRefusal::BadRecord { .. } => b"ae: events bad record at ",
+        EventsRefusal::Astray { .. } => b"ae: events astray at ",
     }
 }
 
@@ -106,6 +107,6 @@ pub fn events_refusal_detail(refusal: EventsRefusal) -> Text
 {
     match refusal {
         EventsRefusal::OtherProgram => Text::new(),
-        EventsRefusal::BadRecord { offset } => digits_of(offset),
+        EventsRefusal::BadRecord { offset } | EventsRefusal::Astray { offset } => digits_of(offset),
     }
 }

@@ -2,12 +2,13 @@
 ghost use Rattle.std.specs.Prelude.{◌≡◌, ◌≤◌, Ok, Some, length, IfOk, IfErr, IsErrOf};
 ghost use Rattle.ae_ports.specs.Files.{SameFiles, TellsSize};
 ghost use Rattle.schema_form.specs.Spells.{Spells};
+ghost use Rattle.ae_top.specs.Inner.EventFiles.{IsShortFile};
 ghost use Rattle.ae_top.specs.SchemaFile.{IsNoSchema, IsSchemaIn, LacksSchema, no_schema_by, status_without_schema};
 ghost use Rattle.ae_top.specs.World.{Blames};
 
 use crate::Status;
-use crate::inputs::{NotRead, read_sized, size_of};
-use ae_ports::{Store, Word};
+use crate::inputs::{NotRead, read_sized};
+use ae_ports::{Failed, Store, Word};
 use schema_form::{SCHEMA_LIMIT, Schema, SchemaFault, read_schema};
 use std::alloc::Global;
 
@@ -70,6 +71,7 @@ pub fn read_schema_file<S: Store>(
 ) -> Result<Schema, NoSchema>
     requires size { TellsSize (S.told store.old) name.now (Ok (Some size)) }
     ensures schema { IfOk result (IsSchemaIn (S.told store.old) name.now) }
+    ensures short { IfOk result (λ _. IsShortFile (S.told store.old) name.now) }
     ensures lacks { IfErr result (LacksSchema (S.told store.old) name.now) }
     ensures blames { Blames (IsErrOf result NoSchema.StoreFault) (S.faults store.old) (S.faults store.new) }
     ensures files { SameFiles (S.told store.old) (S.told store.new) }
@@ -77,7 +79,6 @@ pub fn read_schema_file<S: Store>(
 {
     match read_sized(alloc, store, name, size, SCHEMA_LIMIT as u64) {
         Ok(bytes) => schema_in(alloc, &bytes),
-        Err(NotRead::Missing) => Err(NoSchema::Missing),
         Err(NotRead::StoreFault) => Err(NoSchema::StoreFault),
         Err(NotRead::TooLong) => Err(NoSchema::Bad(SchemaFault::TooLarge)),
         Err(NotRead::NoMemory) => Err(NoSchema::NoMemory),
@@ -92,11 +93,9 @@ pub fn load_schema<S: Store>(alloc: Global, store: &mut S, name: &Word) -> Resul
     ensures files { SameFiles (S.told store.old) (S.told store.new) }
     ensures rest { S.same_rest store.old store.new }
 {
-    match size_of(store, name) {
-        Ok(size) => read_schema_file(alloc, store, name, size),
-        Err(NotRead::Missing) => Err(NoSchema::Missing),
-        Err(NotRead::StoreFault) => Err(NoSchema::StoreFault),
-        Err(NotRead::TooLong) => Err(NoSchema::Bad(SchemaFault::TooLarge)),
-        Err(NotRead::NoMemory) => Err(NoSchema::NoMemory),
+    match store.size(name) {
+        Ok(Some(size)) => read_schema_file(alloc, store, name, size),
+        Ok(None) => Err(NoSchema::Missing),
+        Err(Failed) => Err(NoSchema::StoreFault),
     }
 }

@@ -26,11 +26,31 @@ pub enum PrintKind {
 /// steps that its run may take.
 #[derive(Clone, Copy, Debug, PartialEq, Eq)]
 pub enum Task {
-    Run { prog: u32, fuel: u64 },
-    Plain { prog: u32, trace: u32, fuel: u64 },
-    Print { kind: PrintKind, file: u32 },
-    PrintSchema { file: u32 },
-    PrintEvents { schema: u32, events: u32 },
+    Run {
+        prog: u32,
+        fuel: u64,
+    },
+    Plain {
+        prog: u32,
+        trace: u32,
+        fuel: u64,
+    },
+    Print {
+        kind: PrintKind,
+        file: u32,
+    },
+    PrintSchema {
+        file: u32,
+    },
+    PrintEvents {
+        schema: u32,
+        events: u32,
+    },
+    Regenerate {
+        schema: u32,
+        events: u32,
+        trace: u32,
+    },
 }
 
 /// What the words ask for, `None` where they spell no command that is carried out.
@@ -88,9 +108,17 @@ fn task_of(command: Command) -> Option<Task>
         }),
         Command::PrintSchema { file } => Some(Task::PrintSchema { file }),
         Command::PrintEvents { schema, events } => Some(Task::PrintEvents { schema, events }),
+        Command::Regenerate {
+            schema,
+            events,
+            trace,
+        } => Some(Task::Regenerate {
+            schema,
+            events,
+            trace,
+        }),
         Command::Run { .. }
         | Command::Rewrite { .. }
-        | Command::Regenerate { .. }
         | Command::Profile { .. }
         | Command::Sample { .. }
         | Command::Help => None,

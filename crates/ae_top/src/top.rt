@@ -7,6 +7,7 @@ use crate::plain::plain;
 use crate::print_events::print_events;
 use crate::print_schema::print_schema;
 use crate::printing::print;
+use crate::regenerate::regenerate;
 use crate::run::run;
 use crate::status_lines::tell;
 use crate::task::{Task, read_task};
@@ -16,7 +17,7 @@ use std::alloc::Global;
 /// Carries out the command that the words spell, over the files of the store, the input and the two outputs, and answers
 /// with what came of it. The words are those after the program's name. Today `run PROG` and `plain PROG TRACE` are carried
 /// out, each with `--fuel N` or without, and `print elf FILE`, `print code FILE`, `print graph FILE`, `print needs FILE`, `print slice FILE`,
-/// `print schema FILE` and `print events SCHEMA EVENTS`; all other words are answered with `Usage`.
+/// `print schema FILE`, `print events SCHEMA EVENTS` and `regenerate SCHEMA EVENTS TRACE`; all other words are answered with `Usage`.
 ///
 /// Every call returns. The refusals come in this order: the words, a file that isn't there, one that is too long, a fault
 /// while it is read, what refuses it as an executable or a schema, and then what the run comes to, or the reading of an
@@ -108,6 +109,21 @@ fn carry_out<S: Store, I: Source, O: Sink, P: Sink>(
             events,
             store,
             out,
+        ),
+        Some(
+            Task::Regenerate {
+                schema,
+                events,
+                trace,
+            },
+        ) => regenerate(
+            alloc,
+            &words[schema as usize],
+            schema,
+            &words[events as usize],
+            events,
+            &words[trace as usize],
+            store,
         ),
         None => Status::Usage,
     }

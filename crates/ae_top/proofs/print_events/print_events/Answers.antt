@@ -1,13 +1,25 @@
-use Rattle.std.proofs.Common.{◌≡◌, refl, rules}
+use Rattle.std.proofs.Common.{inl, refl}
+use Rattle.ae_top.specs.declared.event_files.NoEvents.{NoEvents}
+use Rattle.ae_top.specs.PrintEvents.{KeepsPrintEvents}
 use Rattle.ae_top.specs.World.{World, port, world}
-use Rattle.ae_top.proofs.KeptEvents.{carries_from}
+use Rattle.ae_top.proofs.Blamed.{of_err}
+use Rattle.ae_top.proofs.EventsBehind.{carries_no_events}
+use Rattle.ae_top.proofs.KeptEvents.{carries_printed}
 use Rattle.ae_top.proofs.print_events.print_events.Goals as goal
 
-pub returns-in-Ok-Some-clause-keeps : goal.returns-in-Ok-Some-clause-keeps
-returns-in-Ok-Some-clause-keeps g c = λ input err.
+pub returns-in-Ok-clause-keeps : goal.returns-in-Ok-clause-keeps
+returns-in-Ok-clause-keeps g c = λ input err.
     let before : World = world (port (g.S.Store.told c.args.store.now) (g.S.Store.faults c.args.store.now)) input (port (g.O.Sink.told c.args.out.now) (g.O.Sink.faults c.args.out.now)) err in
-    let mid : World = world (port (g.S.Store.told c.size.new.self) (g.S.Store.faults c.size.new.self)) input (port (g.O.Sink.told c.args.out.now) (g.O.Sink.faults c.args.out.now)) err in
-    let now : World = world (port (g.S.Store.told c.print_sized.new.store) (g.S.Store.faults c.print_sized.new.store)) input (port (g.O.Sink.told c.print_sized.new.out) (g.O.Sink.faults c.print_sized.new.out)) err in
-    let counted : mid.store.faults ≡ before.store.faults = search rules in
-    carries_from before mid now c.size.ensures.files refl c.args.schema_place c.args.schema.now c.args.events_place c.args.events.now c.print_sized.result counted
-    (c.print_sized.ensures.keeps input err)
+    let now : World = world (port (g.S.Store.told c.read_event_files.new.store) (g.S.Store.faults c.read_event_files.new.store)) input (port (g.O.Sink.told c.print_read.new.out) (g.O.Sink.faults c.print_read.new.out)) err in
+    let files = c.in-Ok.files in
+    carries_printed c.args.schema_place c.args.schema.now c.args.events_place c.args.events.now files.schema files.events.items c.print_read.result before now
+    c.in-Ok.ensures.read c.print_read.ensures.gets refl refl c.in-Ok.ensures.files (c.in-Ok.ensures.blames.same (λ is. absurd (cc is))) c.print_read.ensures.blames
+
+pub returns-in-Err-clause-keeps : goal.returns-in-Err-clause-keeps
+returns-in-Err-clause-keeps g c = λ input err.
+    let before : World = world (port (g.S.Store.told c.args.store.now) (g.S.Store.faults c.args.store.now)) input (port (g.O.Sink.told c.args.out.now) (g.O.Sink.faults c.args.out.now)) err in
+    let now : World = world (port (g.S.Store.told c.read_event_files.new.store) (g.S.Store.faults c.read_event_files.new.store)) input (port (g.O.Sink.told c.args.out.now) (g.O.Sink.faults c.args.out.now)) err in
+    let status = c.status_without_events.result in
+    carries_no_events c.args.schema_place c.args.schema.now c.args.events_place c.args.events.now c.in-Err.why status before now c.status_without_events.ensures c.in-Err.ensures.lacks refl c.in-Err.ensures.files
+    (of_err c.in-Err.why NoEvents.StoreFault before.store.faults now.store.faults c.in-Err.ensures.blames)
+    (KeepsPrintEvents c.args.schema_place c.args.schema.now c.args.events_place c.args.events.now status before now) inl

@@ -1,10 +1,10 @@
 use Rattle.std.proofs.Common.{◌≡◌, ◌<◌, [], length, Some, ap, sym, ◌∙◌}
 use Rattle.std.proofs.lemmas.List.{get_or_read}
-use Rattle.ae_top.specs.declared.task.Task.TheVariants.{Run, Plain, Print, PrintSchema, PrintEvents}
+use Rattle.ae_top.specs.declared.task.Task.TheVariants.{Run, Plain, Print, PrintSchema, PrintEvents, Regenerate}
 use Rattle.ae_top.specs.Task.{task_in}
 use Rattle.ae_top.specs.World.{World, port, world}
-use Rattle.ae_top.proofs.KeptTop.{run_carried, plain_carried, print_carried, schema_carried, events_carried}
-use Rattle.ae_top.proofs.Named.{run_named_word, plain_named_words, print_named_word, schema_named_word, events_named_words}
+use Rattle.ae_top.proofs.KeptTop.{run_carried, plain_carried, print_carried, schema_carried, events_carried, regenerate_carried}
+use Rattle.ae_top.proofs.Named.{run_named_word, plain_named_words, print_named_word, schema_named_word, events_named_words, regenerate_named_words}
 use Rattle.ae_top.proofs.top.carry_out.Goals as goal
 
 pub bounds-words-prog : goal.bounds-words-prog
@@ -119,3 +119,40 @@ returns-in-Some-PrintEvents-clause-carries g c =
     (port (g.O.Sink.told c.print_events.new.out) (g.O.Sink.faults c.print_events.new.out)) (port (g.P.Sink.told c.args.err.now) (g.P.Sink.faults c.args.err.now)) in
     events_carried words task.schema task.events schema.result events.result c.print_events.result before now is schema_named events_named
     (c.print_events.ensures.keeps before.streams.input before.streams.err)
+
+pub bounds-words-schema-in-Some-Regenerate : goal.bounds-words-schema-in-Some-Regenerate
+bounds-words-schema-in-Some-Regenerate g c =
+    let task = c.in-Some-Regenerate in
+    let is : task_in c.args.words.now ≡ Some (Regenerate task.schema task.events task.trace) = sym c.read_task.ensures ∙ task.is ∙ ap Some task.field-0-is in
+    (regenerate_named_words c.args.words.now task.schema task.events task.trace is).0
+
+pub bounds-words-events-in-Some-Regenerate : goal.bounds-words-events-in-Some-Regenerate
+bounds-words-events-in-Some-Regenerate g c =
+    let task = c.in-Some-Regenerate in
+    let is : task_in c.args.words.now ≡ Some (Regenerate task.schema task.events task.trace) = sym c.read_task.ensures ∙ task.is ∙ ap Some task.field-0-is in
+    (regenerate_named_words c.args.words.now task.schema task.events task.trace is).1
+
+pub bounds-words-trace-in-Some-Regenerate : goal.bounds-words-trace-in-Some-Regenerate
+bounds-words-trace-in-Some-Regenerate g c =
+    let task = c.in-Some-Regenerate in
+    let is : task_in c.args.words.now ≡ Some (Regenerate task.schema task.events task.trace) = sym c.read_task.ensures ∙ task.is ∙ ap Some task.field-0-is in
+    (regenerate_named_words c.args.words.now task.schema task.events task.trace is).2
+
+pub returns-in-Some-Regenerate-clause-carries : goal.returns-in-Some-Regenerate-clause-carries
+returns-in-Some-Regenerate-clause-carries g c =
+    let words = c.args.words.now in
+    let task = c.in-Some-Regenerate in
+    let is : task_in words ≡ Some (Regenerate task.schema task.events task.trace) = sym c.read_task.ensures ∙ task.is ∙ ap Some task.field-0-is in
+    let within = regenerate_named_words words task.schema task.events task.trace is in
+    let schema = c.index-words-schema-in-Some-Regenerate in
+    let events = c.index-words-events-in-Some-Regenerate in
+    let trace = c.index-words-trace-in-Some-Regenerate in
+    let schema_named = get_or_read words task.schema schema.result within.0 schema.is [] in
+    let events_named = get_or_read words task.events events.result within.1 events.is [] in
+    let trace_named = get_or_read words task.trace trace.result within.2 trace.is [] in
+    let before : World = world (port (g.S.Store.told c.args.store.now) (g.S.Store.faults c.args.store.now)) (port (g.I.Source.told c.args.input.now) (g.I.Source.faults c.args.input.now))
+    (port (g.O.Sink.told c.args.out.now) (g.O.Sink.faults c.args.out.now)) (port (g.P.Sink.told c.args.err.now) (g.P.Sink.faults c.args.err.now)) in
+    let now : World = world (port (g.S.Store.told c.regenerate.new.store) (g.S.Store.faults c.regenerate.new.store)) (port (g.I.Source.told c.args.input.now) (g.I.Source.faults c.args.input.now))
+    (port (g.O.Sink.told c.args.out.now) (g.O.Sink.faults c.args.out.now)) (port (g.P.Sink.told c.args.err.now) (g.P.Sink.faults c.args.err.now)) in
+    regenerate_carried words task.schema task.events task.trace schema.result events.result trace.result c.regenerate.result before now is schema_named events_named trace_named
+    (c.regenerate.ensures.keeps before.streams.input before.streams.out before.streams.err)

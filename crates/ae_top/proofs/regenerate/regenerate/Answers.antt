@@ -1,0 +1,27 @@
+use Rattle.std.proofs.Common.{inl, refl}
+use Rattle.ae_top.specs.declared.event_files.NoEvents.{NoEvents}
+use Rattle.ae_top.specs.Regenerate.{KeepsRegenerate}
+use Rattle.ae_top.specs.World.{World, port, world}
+use Rattle.ae_top.proofs.Blamed.{of_err}
+use Rattle.ae_top.proofs.EventsBehind.{carries_no_events}
+use Rattle.ae_top.proofs.KeptRegenerated.{carries_read}
+use Rattle.ae_top.proofs.regenerate.regenerate.Goals as goal
+
+pub returns-in-Ok-clause-keeps : goal.returns-in-Ok-clause-keeps
+returns-in-Ok-clause-keeps g c = λ input out err.
+    let before : World = world (port (g.S.Store.told c.args.store.now) (g.S.Store.faults c.args.store.now)) input out err in
+    let mid : World = world (port (g.S.Store.told c.read_event_files.new.store) (g.S.Store.faults c.read_event_files.new.store)) input out err in
+    let now : World = world (port (g.S.Store.told c.regenerate_read.new.store) (g.S.Store.faults c.regenerate_read.new.store)) input out err in
+    let files = c.in-Ok.files in
+    carries_read before mid now c.in-Ok.ensures.files refl c.args.schema_place c.args.schema.now c.args.events_place c.args.events.now c.args.trace.now
+    files.schema files.events.items c.regenerate_read.result
+    (c.in-Ok.ensures.blames.same (λ is. absurd (cc is))) c.in-Ok.ensures.read (c.regenerate_read.ensures.comes input out err)
+
+pub returns-in-Err-clause-keeps : goal.returns-in-Err-clause-keeps
+returns-in-Err-clause-keeps g c = λ input out err.
+    let before : World = world (port (g.S.Store.told c.args.store.now) (g.S.Store.faults c.args.store.now)) input out err in
+    let now : World = world (port (g.S.Store.told c.read_event_files.new.store) (g.S.Store.faults c.read_event_files.new.store)) input out err in
+    let status = c.status_without_events.result in
+    carries_no_events c.args.schema_place c.args.schema.now c.args.events_place c.args.events.now c.in-Err.why status before now c.status_without_events.ensures c.in-Err.ensures.lacks refl c.in-Err.ensures.files
+    (of_err c.in-Err.why NoEvents.StoreFault before.store.faults now.store.faults c.in-Err.ensures.blames)
+    (KeepsRegenerate c.args.schema_place c.args.schema.now c.args.events_place c.args.events.now c.args.trace.now status before now) inl

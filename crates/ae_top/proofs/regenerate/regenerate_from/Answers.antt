@@ -1,0 +1,28 @@
+use Rattle.std.proofs.Common.{◌≡◌, inr, refl, rules}
+use Rattle.ae_top.specs.declared.status.Status.{Status}
+use Rattle.ae_top.specs.Regenerate.{RegeneratesFrom}
+use Rattle.ae_top.specs.World.{World, port, world}
+use Rattle.ae_top.proofs.Blamed.{blames_behind, carries_of_store}
+use Rattle.ae_top.proofs.FilesBehind.{same_others_both}
+use Rattle.ae_top.proofs.KeptRegenerated.{of_writing}
+use Rattle.ae_top.proofs.regenerate.regenerate_from.Goals as goal
+
+-- TRACE was made
+pub returns-clause-comes : goal.returns-clause-comes
+returns-clause-comes g c = λ input out err.
+    let before : World = world (port (g.S.Store.told c.args.store.now) (g.S.Store.faults c.args.store.now)) input out err in
+    let now : World = world (port (g.S.Store.told c.write_trace.new.store) (g.S.Store.faults c.write_trace.new.store)) input out err in
+    let parts = c.args.schema.now in
+    let bytes = c.args.events.items in
+    let trace = c.args.trace.now in
+    let status = c.write_trace.result in
+    let writes = c.write_trace.ensures.writes in
+    let served : g.S.Store.faults c.make.new.self ≡ before.store.faults = search rules in
+    carries_of_store (RegeneratesFrom parts bytes trace status before now) status before now (of_writing parts bytes trace status now.store.told writes) refl
+    (blames_behind (status ≡ Status.StoreFault) before.store.faults (g.S.Store.faults c.make.new.self) now.store.faults served c.write_trace.ensures.blames)
+    (inr (inr (inr (record {
+      own = c.requires.own;
+      writes = writes;
+      streams = refl;
+      others = same_others_both before.store.told (g.S.Store.told c.make.new.self) now.store.told trace c.make.ensures.others c.write_trace.ensures.others;
+    }))))
