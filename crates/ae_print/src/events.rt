@@ -120,9 +120,10 @@ fn write_events<H: Shape, K: Sink>(
     ensures broken { IfErr result (λ _. lines.new.broken ≡ true) }
 {
     let mut records = Records::start();
+    let mut rec = Record::Fall(0);
     loop {
-        match records.read(shape, events) {
-            Ok((offset, rec)) => write_record(offset, &rec, lines)?,
+        match records.read(shape, events, &mut rec) {
+            Ok(offset) => write_record(offset, &rec, lines)?,
             Err(stop) => {
                 write_stop(stop, lines)?;
                 return Ok(stop);

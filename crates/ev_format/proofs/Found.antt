@@ -8,7 +8,7 @@ use Rattle.ev_format.specs.declared.record.Record.{Record}
 use Rattle.ev_format.specs.declared.record.Record.TheVariants.{Value, Landing, End}
 use Rattle.ev_format.specs.declared.stop.Stop.{Stop}
 use Rattle.ev_format.specs.declared.stop.Stop.TheVariants.{Cut, BadRecord}
-use Rattle.ev_format.specs.Inner.Bodies.{further_bytes, IsOf, BodyStops, IsValue, IsEnd}
+use Rattle.ev_format.specs.Inner.Bodies.{further_bytes, IsOf, BodyStops, IsEnd}
 use Rattle.ev_format.specs.Inner.Filling.{FallsShort}
 use Rattle.ev_format.specs.Reading.{RecordStops}
 use Rattle.ev_format.specs.Shapes.{ShapeView, IsShape, takes_kind, has_slot, value_count, HasRecord}
@@ -102,11 +102,6 @@ RecordStops-bad shape offset word rest small none = (
         subst (λ (a : ℕ). has_slot shape a kind ≡ false) address (none kind (omega (arith, aligned, same, bits)));
   },
 )
-
-pub IsOf-IsValue : (shape : ShapeView) (at : ℕ) (rec : Record) → IsValue at rec → IsOf shape kinds.Value at rec
-IsOf-IsValue shape at rec is =
-    let whole : IsOf shape kinds.Value at (Value at is.0) = record { kind_is = refl; address_is = refl; values = tt; words = (is.2, tt) } in
-    subst (IsOf shape kinds.Value at) (sym is.1) whole
 
 pub IsOf-IsEnd : (shape : ShapeView) (at : ℕ) (rec : Record) → IsEnd at rec → IsOf shape kinds.End at rec
 IsOf-IsEnd shape at rec is =

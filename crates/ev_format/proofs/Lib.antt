@@ -1,5 +1,4 @@
 pub mod LawsOfReadings
-mod SteadilyRead
 mod Words
 mod Consumed
 mod Filled

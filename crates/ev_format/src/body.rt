@@ -1,12 +1,12 @@
 //! What records have behind their first word.
-ghost use Rattle.std.specs.Prelude.{◌≡◌, ◌+◌, ◌*◌, ◌≤◌, ◌%◌, length, IfOk, IfErr};
+ghost use Rattle.std.specs.Prelude.{◌≡◌, ◌+◌, ◌*◌, ◌≤◌, ◌%◌, length, IfOk, IfErr, OnOk};
 ghost use Rattle.std.specs.List.{flat_map, AllByRecursion};
 ghost use Rattle.ae_nums.specs.Registers.{registers_of};
 ghost use Rattle.ae_ports.specs.Content.{Consumes};
 ghost use Rattle.rv_code.specs.Numbers.{IsWord, bytes_of};
 ghost use Rattle.ev_format.specs.declared.kind.RecordKind.TheVariants as kinds;
 ghost use Rattle.ev_format.specs.Answers.{IfStopped};
-ghost use Rattle.ev_format.specs.Inner.Bodies.{further_bytes, IsOf, BodyStops, IsValue, IsEnd};
+ghost use Rattle.ev_format.specs.Inner.Bodies.{further_bytes, IsOf, BodyStops, IsEnd};
 ghost use Rattle.ev_format.specs.Inner.Filling.{FallsShort, HasRisenBy};
 ghost use Rattle.ev_format.specs.Shapes.{value_count};
 
@@ -15,38 +15,33 @@ use crate::{Halt, Record, RecordKind, Shape, Values};
 use ae_nums::take_u32;
 use ae_ports::Source;
 
-/// Reads what a record of this kind has behind its first word.
+/// Reads what a record of this kind has behind its first word. Where it isn't whole, `rec` is as before.
 #[inline(always)]
 pub fn read_body<S: Source, H: Shape>(
     kind: RecordKind,
     at: u32,
     shape: &H,
     source: &mut S,
-) -> Result<Record, Halt>
-    ensures whole { IfOk result (IsOf (H.shown shape.now) kind at) }
-    ensures taken { IfOk result (λ rec. Consumes (S.told source.old) (S.told source.new) (further_bytes rec)) }
+    rec: &mut Record,
+) -> Result<(), Halt>
+    ensures whole { OnOk result (IsOf (H.shown shape.now) kind at rec.new) }
+    ensures taken { OnOk result (Consumes (S.told source.old) (S.told source.new) (further_bytes rec.new)) }
+    ensures unread { IfErr result (λ _. rec.new ≡ rec.old) }
     ensures stopped { IfErr result (IfStopped (S.told source.old) (BodyStops (H.shown shape.now) kind at)) }
     ensures cause { HasRisenBy (S.faults source.old) (S.faults source.new) result }
     ensures rest { S.same_rest source.old source.new }
 {
     match kind {
-        RecordKind::Fall => Ok(Record::Fall(at)),
-        RecordKind::Taken => Ok(Record::Taken(at)),
-        RecordKind::Value => read_value(at, source),
-        RecordKind::Landing => read_landing(at, shape, source),
-        RecordKind::End => read_end(at, source),
+        RecordKind::Fall => *rec = Record::Fall(at),
+        RecordKind::Taken => *rec = Record::Taken(at),
+        RecordKind::Value => {
+            let value = read_word(source)?;
+            *rec = Record::Value { at, value };
+        }
+        RecordKind::Landing => *rec = read_landing(at, shape, source)?,
+        RecordKind::End => *rec = read_end(at, source)?,
     }
-}
-
-fn read_value<S: Source>(at: u32, source: &mut S) -> Result<Record, Halt>
-    ensures whole { IfOk result (IsValue at) }
-    ensures taken { IfOk result (λ rec. Consumes (S.told source.old) (S.told source.new) (further_bytes rec)) }
-    ensures short { IfErr result (IfStopped (S.told source.old) (FallsShort 4)) }
-    ensures cause { HasRisenBy (S.faults source.old) (S.faults source.new) result }
-    ensures rest { S.same_rest source.old source.new }
-{
-    let value = read_word(source)?;
-    Ok(Record::Value { at, value })
+    Ok(())
 }
 
 fn read_end<S: Source>(at: u32, source: &mut S) -> Result<Record, Halt>

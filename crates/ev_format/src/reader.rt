@@ -1,5 +1,5 @@
 //! What is next in an event file, record or none.
-ghost use Rattle.std.specs.Prelude.{◌≡◌, ◌≤◌, ◌++◌, IfOk, IfErr};
+ghost use Rattle.std.specs.Prelude.{◌≡◌, ◌≤◌, ◌++◌, IfOk, IfErr, OnOk};
 ghost use Rattle.ae_ports.specs.Content.{Consumes};
 ghost use Rattle.ev_format.specs.Answers.{IfStopped, HaltRises};
 ghost use Rattle.ev_format.specs.Inner.Filling.{HasRisenBy};
@@ -14,16 +14,18 @@ use crate::kind::kind_at;
 use crate::{Halt, Place, Record, Shape, Stop};
 use ae_ports::{Failed, Source};
 
-/// Reads the record that is next at a place, and its offset.
+/// Reads the record that is next at a place, and answers its offset. Where there is none, `rec` is as before.
 #[inline(always)]
 pub fn read_next<S: Source, H: Shape>(
     place: Place,
     shape: &H,
     source: &mut S,
-) -> Result<(u64, Record), Halt>
-    ensures next { IfOk result (λ found. MayBeNext (H.shown shape.now) place found.0 found.1) }
-    ensures taken { IfOk result (λ found. Consumes (S.told source.old) (S.told source.new)
-        (header_before (H.shown shape.now) place ++ record_bytes found.1)) }
+    rec: &mut Record,
+) -> Result<u64, Halt>
+    ensures next { IfOk result (λ offset. MayBeNext (H.shown shape.now) place offset rec.new) }
+    ensures taken { IfOk result (λ _. Consumes (S.told source.old) (S.told source.new)
+        (header_before (H.shown shape.now) place ++ record_bytes rec.new)) }
+    ensures unread { IfErr result (λ _. rec.new ≡ rec.old) }
     ensures stopped { IfErr result (IfStopped (S.told source.old) (StopsWith (H.shown shape.now) place)) }
     ensures cause { HasRisenBy (S.faults source.old) (S.faults source.new) result }
     ensures rest { S.same_rest source.old source.new }
@@ -31,12 +33,12 @@ pub fn read_next<S: Source, H: Shape>(
     match place {
         Place::Start => {
             read_header(shape, source)?;
-            let rec = read_record(HEADER_LENGTH, shape, source)?;
-            Ok((HEADER_LENGTH, rec))
+            read_record(HEADER_LENGTH, shape, source, rec)?;
+            Ok(HEADER_LENGTH)
         }
         Place::Within { offset } => {
-            let rec = read_record(offset, shape, source)?;
-            Ok((offset, rec))
+            read_record(offset, shape, source, rec)?;
+            Ok(offset)
         }
         Place::Ended { offset } => Err(halt_behind_end(offset, source)),
     }
@@ -44,9 +46,15 @@ pub fn read_next<S: Source, H: Shape>(
 
 // reads the record that begins at this offset
 #[inline(always)]
-fn read_record<S: Source, H: Shape>(offset: u64, shape: &H, source: &mut S) -> Result<Record, Halt>
-    ensures next { IfOk result (HasRecord (H.shown shape.now)) }
-    ensures taken { IfOk result (λ rec. Consumes (S.told source.old) (S.told source.new) (record_bytes rec)) }
+fn read_record<S: Source, H: Shape>(
+    offset: u64,
+    shape: &H,
+    source: &mut S,
+    rec: &mut Record,
+) -> Result<(), Halt>
+    ensures next { OnOk result (HasRecord (H.shown shape.now) rec.new) }
+    ensures taken { OnOk result (Consumes (S.told source.old) (S.told source.new) (record_bytes rec.new)) }
+    ensures unread { IfErr result (λ _. rec.new ≡ rec.old) }
     ensures stopped { IfErr result (IfStopped (S.told source.old) (RecordStops (H.shown shape.now) offset)) }
     ensures cause { HasRisenBy (S.faults source.old) (S.faults source.new) result }
     ensures rest { S.same_rest source.old source.new }
@@ -55,7 +63,7 @@ fn read_record<S: Source, H: Shape>(offset: u64, shape: &H, source: &mut S) -> R
     let bits = word % 4;
     let at = word - bits;
     match kind_at(shape.slot(at), at, bits) {
-        Some(kind) => read_body(kind, at, shape, source),
+        Some(kind) => read_body(kind, at, shape, source, rec),
         None => Err(Halt::Stopped(Stop::BadRecord { offset })),
     }
 }

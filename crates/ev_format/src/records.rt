@@ -3,12 +3,13 @@ ghost use Rattle.ae_ports.specs.Content.{Consumes};
 ghost use Rattle.ev_format.specs.declared.halt.Halt.{Halt};
 ghost use Rattle.ev_format.specs.declared.place.Place.TheVariants as places;
 ghost use Rattle.ev_format.specs.Answers.{answer_of, IfWhole, IfStopped, AnswerRises};
+ghost use Rattle.ev_format.specs.Inner.Filling.{HasRisenBy};
 ghost use Rattle.ev_format.specs.Reading.{place_behind, MayBeNext, header_before, StopsWith};
 ghost use Rattle.ev_format.specs.Spelling.{record_bytes};
 
 use crate::place::place_behind;
 use crate::reader::read_next;
-use crate::{EventFault, Halt, Next, Place, Shape};
+use crate::{EventFault, Halt, Next, Place, Record, Shape};
 use ae_ports::Source;
 use std::marker::Model;
 
@@ -61,18 +62,42 @@ impl Records {
         ensures cause { IsOk self.old → AnswerRises (S.faults source.old) (S.faults source.new) result }
         ensures rest { S.same_rest source.old source.new }
     {
-        let read = match self.progress {
-            Ok(place) => read_next(place, shape, source),
-            Err(halt) => Err(halt),
-        };
-        match read {
-            Ok((offset, rec)) => {
-                self.progress = Ok(place_behind(offset, &rec));
-                Ok(Next::Whole { offset, rec })
+        let mut rec = Record::Fall(0);
+        match self.take_next(shape, source, &mut rec) {
+            Ok(offset) => Ok(Next::Whole { offset, rec }),
+            Err(halt) => halt.answer(),
+        }
+    }
+
+    /// Reads the next record, and answers its offset, or why there is none; then `rec` is as before.
+    #[inline(always)]
+    pub(crate) fn take_next<S: Source, H: Shape>(
+        &mut self,
+        shape: &H,
+        source: &mut S,
+        rec: &mut Record,
+    ) -> Result<u64, Halt>
+        ensures whole { IfOk self.old (λ place. IfOk result (λ offset.
+            MayBeNext (H.shown shape.now) place offset rec.new × (self.new ≡ Ok (place_behind offset rec.new)))) }
+        ensures taken { IfOk self.old (λ place. IfOk result (λ _.
+            Consumes (S.told source.old) (S.told source.new) (header_before (H.shown shape.now) place ++ record_bytes rec.new))) }
+        ensures stopped { IfOk self.old (λ place. IfErr result (IfStopped (S.told source.old) (StopsWith (H.shown shape.now) place))) }
+        ensures halted { IfErr result (λ halt. self.new ≡ Err halt) }
+        ensures unread { IfErr result (λ _. rec.new ≡ rec.old) }
+        ensures kept { IfErr self.old (λ halt. (result ≡ Err halt) × (source.new ≡ source.old)) }
+        ensures later { S.faults source.old ≤ S.faults source.new }
+        ensures cause { IsOk self.old → HasRisenBy (S.faults source.old) (S.faults source.new) result }
+        ensures rest { S.same_rest source.old source.new }
+    {
+        let place = self.progress?;
+        match read_next(place, shape, source, rec) {
+            Ok(offset) => {
+                self.progress = Ok(place_behind(offset, rec));
+                Ok(offset)
             }
             Err(halt) => {
                 self.progress = Err(halt);
-                halt.answer()
+                Err(halt)
             }
         }
     }

@@ -2,30 +2,29 @@
 ghost use Rattle.std.specs.Prelude.{◌≡◌, Ok, IsOk, IfOk, IfErr};
 ghost use Rattle.ev_format.specs.Reading.{place_behind, ReadsOne, StopsWith};
 
-use crate::{EventFault, Next, Record, Records, Shape, Stop};
+use crate::{Halt, Record, Records, Shape, Stop};
 use ae_ports::SteadySource;
 
 impl Records {
-    /// As [`Records::next`], from bytes in memory, which no read of fails: the next record and its offset, or why reading stops. It hasn't
-    /// stopped before.
+    /// As [`Records::next`], from bytes in memory, which no read of fails, and into a room of the caller's: the offset of the next record, or
+    /// why reading stops; then `rec` is as before. It hasn't stopped before.
     #[inline]
     pub fn read<H: Shape>(
         &mut self,
         shape: &H,
         source: &mut SteadySource,
-    ) -> Result<(u64, Record), Stop>
+        rec: &mut Record,
+    ) -> Result<u64, Stop>
         requires { IsOk self.old }
-        ensures whole { IfOk self.old (λ place. IfOk result (λ placed.
-            ReadsOne (H.shown shape.now) place source.old source.new placed × (self.new ≡ Ok (place_behind placed.0 placed.1)))) }
+        ensures whole { IfOk self.old (λ place. IfOk result (λ offset.
+            ReadsOne (H.shown shape.now) place source.old source.new (offset, rec.new) × (self.new ≡ Ok (place_behind offset rec.new)))) }
         ensures stopped { IfOk self.old (λ place. IfErr result (StopsWith (H.shown shape.now) place source.old)) }
+        ensures unread { IfErr result (λ _. rec.new ≡ rec.old) }
     {
-        match self.next(shape, source) {
-            Ok(Next::Whole { offset, rec }) => Ok((offset, rec)),
-            Ok(Next::Cut) => Err(Stop::Cut),
-            Ok(Next::Finished) => Err(Stop::Finished),
-            Err(EventFault::OtherProgram) => Err(Stop::OtherProgram),
-            Err(EventFault::BadRecord { offset }) => Err(Stop::BadRecord { offset }),
-            Err(EventFault::SourceFault) => unreachable!(),
+        match self.take_next(shape, source, rec) {
+            Ok(offset) => Ok(offset),
+            Err(Halt::Stopped(stop)) => Err(stop),
+            Err(Halt::Failed) => unreachable!(),
         }
     }
 }

@@ -4,7 +4,7 @@ use Rattle.std.specs.List.{AllByRecursion, flat_map}
 use Rattle.rv_code.specs.Numbers.{IsWord, bytes_of}
 use Rattle.ev_format.specs.declared.kind.RecordKind.{RecordKind}
 use Rattle.ev_format.specs.declared.record.Record.{Record}
-use Rattle.ev_format.specs.declared.record.Record.TheVariants.{Value, End}
+use Rattle.ev_format.specs.declared.record.Record.TheVariants.{End}
 use Rattle.ev_format.specs.declared.stop.Stop.{Stop}
 use Rattle.ev_format.specs.declared.stop.Stop.TheVariants.{Cut}
 use Rattle.ev_format.specs.Shapes.{ShapeView, HasValues}
@@ -24,9 +24,6 @@ pub record IsOf (shape : ShapeView) (kind : RecordKind) (at : ℕ) (rec : Record
 abbrev pub BodyStops : ShapeView → RecordKind → ℕ → List ℕ → Stop → Type 0
 BodyStops shape kind at bytes stop =
     (stop ≡ Cut) × ((rec : Record) (rest : List ℕ) → IsOf shape kind at rec → bytes ≢ further_bytes rec ++ rest)
-
-abbrev pub IsValue : ℕ → Record → Type 0
-IsValue at rec = (value : ℕ) × (rec ≡ Value at value) × IsWord value
 
 abbrev pub IsEnd : ℕ → Record → Type 0
 IsEnd at rec = (kind : ℕ) × (detail : ℕ) × (rec ≡ End at kind detail) × IsWord kind × IsWord detail

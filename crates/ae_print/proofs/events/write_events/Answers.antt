@@ -22,14 +22,14 @@ loop-offset-preserved g c =
     let left = c.loop-offset.events in
     let rest = c.read.new.source in
     let place : Place = c.loop-offset.invariant.0 in
-    let next : Place = place_behind c.in-Ok.offset c.in-Ok.rec in
-    let line : List ℕ = record_line (c.in-Ok.offset, c.in-Ok.rec) in
-    let one = at_place c.loop-offset.records place (λ at. ReadsOne shape at left rest (c.in-Ok.offset, c.in-Ok.rec) × (c.read.new.self ≡ Ok next)) c.loop-offset.invariant.1
+    let next : Place = place_behind c.in-Ok.offset c.read.new.rec in
+    let line : List ℕ = record_line (c.in-Ok.offset, c.read.new.rec) in
+    let one = at_place c.loop-offset.records place (λ at. ReadsOne shape at left rest (c.in-Ok.offset, c.read.new.rec) × (c.read.new.self ≡ Ok next)) c.loop-offset.invariant.1
     c.in-Ok.ensures.whole in (
       next,
       one.1,
       some_both g.met.K.Sink.rest_joins _ _ _ (IsReadTo shape all place left) (λ written. written ≡ line) (IsReadTo shape all next rest)
-          (λ text written read is. one_read shape all place left rest text written (c.in-Ok.offset, c.in-Ok.rec) read one.0 is)
+          (λ text written read is. one_read shape all place left rest text written (c.in-Ok.offset, c.read.new.rec) read one.0 is)
           c.loop-offset.invariant.2 (record { text = line; is = refl; puts = puts_anyway _ _ line c.write_record.result c.write_record.ensures }),
     )
 
@@ -40,12 +40,12 @@ returns-in_err-write_record-in-Ok-clause-front g c =
     let left = c.loop-offset.events in
     let rest = c.read.new.source in
     let place : Place = c.loop-offset.invariant.0 in
-    let next : Place = place_behind c.in-Ok.offset c.in-Ok.rec in
-    let line : List ℕ = record_line (c.in-Ok.offset, c.in-Ok.rec) in
-    let one = at_place c.loop-offset.records place (λ at. ReadsOne shape at left rest (c.in-Ok.offset, c.in-Ok.rec) × (c.read.new.self ≡ Ok next)) c.loop-offset.invariant.1
+    let next : Place = place_behind c.in-Ok.offset c.read.new.rec in
+    let line : List ℕ = record_line (c.in-Ok.offset, c.read.new.rec) in
+    let one = at_place c.loop-offset.records place (λ at. ReadsOne shape at left rest (c.in-Ok.offset, c.read.new.rec) × (c.read.new.self ≡ Ok next)) c.loop-offset.invariant.1
     c.in-Ok.ensures.whole in
     after_error _ c.from_residual.result (some_both g.met.K.Sink.rest_joins _ _ _ (IsReadTo shape all place left) (λ written. written ≡ line) (IsBegunEventText shape all)
-    (λ text written read is. begun shape all next rest _ (one_read shape all place left rest text written (c.in-Ok.offset, c.in-Ok.rec) read one.0 is))
+    (λ text written read is. begun shape all next rest _ (one_read shape all place left rest text written (c.in-Ok.offset, c.read.new.rec) read one.0 is))
     c.loop-offset.invariant.2 (record { text = line; is = refl; puts = puts_anyway _ _ line c.write_record.result c.write_record.ensures }))
 
 pub returns-in_err-write_stop-in-Err-clause-front : goal.returns-in_err-write_stop-in-Err-clause-front
