@@ -22,4 +22,5 @@ mod Told
 mod Towards
 mod Traced
 mod Tellings
+mod WordsDecoded
 mod WordsMet

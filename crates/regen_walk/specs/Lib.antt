@@ -4,6 +4,7 @@ pub mod Labels
 pub mod Moves
 pub mod Walks
 pub mod FreeArcs
+pub mod Decoded
 pub mod WalkView
 pub mod Promises
 pub mod Regenerated

@@ -7,34 +7,38 @@ ghost use Rattle.schema_form.specs.SchemaParts.{SchemaParts};
 ghost use Rattle.regen_path.specs.declared.arcs.Arc.{Arc};
 ghost use Rattle.regen_path.specs.Arcs.{AreWays, HasArc, way_from};
 ghost use Rattle.regen_path.specs.Walks.{IsWalk};
+ghost use Rattle.regen_walk.specs.Decoded.{AreDecoded, IsDecoded};
 ghost use Rattle.regen_walk.specs.FreeArcs.{kind_number, quiet_arcs};
 ghost use Rattle.regen_walk.specs.Inner.Going.{IsCarriedOut, GoesAlong, items_at, PassesOver};
 ghost use Rattle.regen_walk.specs.Inner.Met.{IsMet, IsSpot};
 
 use crate::accesses::{access_by, carry_out_plain, put_link};
 use crate::arcs::kind_number;
+use crate::decoded::instr_at;
 use crate::met::{Met, Spot, met_at};
 use ae_nums::{Item, Taker};
 use ae_ports::Failed;
 use regen_path::{Hop, Paths};
-use rv_code::{Class, decode};
+use rv_code::{Class, Instr};
 use schema_form::Schema;
 
 /// Carries out a word that goes on without a record, and answers the bytes that it reads or writes.
-pub fn carry_out(address: u32, met: Met, registers: &mut [u32; 32]) -> Option<Item>
-    requires { (parts : SchemaParts) × IsMet parts address met }
+#[inline(always)]
+pub fn carry_out(address: u32, met: Met, instr: &Instr, registers: &mut [u32; 32]) -> Option<Item>
+    requires met { (parts : SchemaParts) × IsMet parts address met }
+    requires decoded { IsDecoded met.word.raw instr.now }
     ensures { IsCarriedOut address met registers.old result registers.new }
 {
     match met.class {
         Class::Plain => {
             if met.is_kept() {
-                carry_out_plain(&decode(met.word.raw), address, registers);
+                carry_out_plain(instr, address, registers);
             }
             None
         }
-        Class::Load | Class::Store => access_by(&decode(met.word.raw), registers),
+        Class::Load | Class::Store => access_by(instr, registers),
         Class::Jump => {
-            put_link(&decode(met.word.raw), registers, address);
+            put_link(instr, registers, address);
             None
         }
         Class::Branch | Class::Indirect | Class::Call | Class::Stop => None,
@@ -72,20 +76,23 @@ pub fn leads(paths: &Paths, here: u32, goal: u32) -> bool
 pub fn pass(
     schema: &Schema,
     paths: &Paths,
+    instrs: &[Instr],
     taken: bool,
     spot: &mut Spot,
     registers: &mut [u32; 32],
 ) -> Option<Item>
     requires spot { IsSpot schema.now spot.old }
     requires ways { AreWays (quiet_arcs schema.now) (length schema.now.words) paths.now }
+    requires decoded { AreDecoded schema.now.words instrs.now }
     requires arc { IsSome (way_from paths.now (kind_number taken) spot.old.place) }
     ensures moves { PassesOver schema.now taken spot.old spot.new registers.old registers.new result }
     ensures arc { way_from paths.now (kind_number taken) spot.old.place ≡ Some spot.new.place }
 {
     let met = met_at(schema, *spot);
-    let access = carry_out(spot.address, met, registers);
+    let instr = instr_at(schema, instrs, *spot, met);
+    let access = carry_out(spot.address, met, &instr, registers);
     let place = paths.way(spot.place, kind_number(taken)).unwrap();
-    let address = met.way_of(taken, spot.address).unwrap();
+    let address = met.way_by(taken, &instr, spot.address).unwrap();
     *spot = Spot { address, place };
     access
 }
@@ -108,11 +115,13 @@ pub fn give<K: Taker>(items: &mut K, address: u32, access: Option<Item>) -> Resu
 pub fn scouted(
     schema: &Schema,
     paths: &Paths,
+    instrs: &[Instr],
     from: Spot,
     goal: Spot,
     registers: &[u32; 32],
 ) -> [u32; 32]
     requires ways { AreWays (quiet_arcs schema.now) (length schema.now.words) paths.now }
+    requires decoded { AreDecoded schema.now.words instrs.now }
     requires from { IsSpot schema.now from }
     requires goal { IsSpot schema.now goal }
     requires leads { (walk : List Arc) × IsWalk (HasArc paths.now) from.place goal.place walk }
@@ -126,7 +135,7 @@ pub fn scouted(
         let Some(taken) = way_towards(paths, spot.place, goal.place) else {
             break;
         };
-        pass(schema, paths, taken, &mut spot, &mut registers);
+        pass(schema, paths, instrs, taken, &mut spot, &mut registers);
     }
     registers
 }
@@ -135,12 +144,14 @@ pub fn scouted(
 pub fn go<K: Taker>(
     schema: &Schema,
     paths: &Paths,
+    instrs: &[Instr],
     from: Spot,
     goal: Spot,
     registers: &mut [u32; 32],
     items: &mut K,
 ) -> Result<(), Failed>
     requires ways { AreWays (quiet_arcs schema.now) (length schema.now.words) paths.now }
+    requires decoded { AreDecoded schema.now.words instrs.now }
     requires from { IsSpot schema.now from }
     requires goal { IsSpot schema.now goal }
     requires leads { (walk : List Arc) × IsWalk (HasArc paths.now) from.place goal.place walk }
@@ -158,7 +169,7 @@ pub fn go<K: Taker>(
             break;
         };
         let address = spot.address;
-        let access = pass(schema, paths, taken, &mut spot, registers);
+        let access = pass(schema, paths, instrs, taken, &mut spot, registers);
         give(items, address, access)?;
     }
     Ok(())

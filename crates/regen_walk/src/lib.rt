@@ -9,6 +9,7 @@
 mod accesses;
 mod arcs;
 mod crossing;
+mod decoded;
 mod going;
 mod laws;
 mod met;

@@ -1,11 +1,12 @@
 //! What a schema has for the code word where a walk stands.
 ghost use Rattle.std.specs.Prelude.{◌≡◌};
+ghost use Rattle.rv_code.specs.Table.{meaning_of};
 ghost use Rattle.schema_form.specs.Flags.{is_set};
 ghost use Rattle.schema_form.specs.Rules.{way_of, witness_mark};
 ghost use Rattle.regen_walk.specs.Inner.Met.{IsMet, IsSpot};
 ghost use Rattle.regen_walk.specs.Moves.{is_kept};
 
-use rv_code::Class;
+use rv_code::{Class, Instr, falls, target};
 use schema_form::{KEPT, Schema, SchemaWord, class_in, is_set, way_of, witness_mark};
 
 /// A code word: its address, and its place among the code words.
@@ -45,6 +46,22 @@ impl Met {
         ensures { result ≡ way_of taken self.now.class self.now.word.raw address }
     {
         way_of(taken, self.class, self.word.raw, address)
+    }
+
+    /// The same, of a word that means this instruction.
+    #[inline(always)]
+    pub fn way_by(&self, taken: bool, instr: &Instr, address: u32) -> Option<u32>
+        requires { instr.now ≡ meaning_of self.now.word.raw }
+        ensures { result ≡ way_of taken self.now.class self.now.word.raw address }
+    {
+        if taken {
+            return target(instr, address);
+        }
+        if falls(self.class) {
+            Some(address.wrapping_add(4))
+        } else {
+            None
+        }
     }
 }
 

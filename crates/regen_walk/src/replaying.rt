@@ -9,7 +9,7 @@ ghost use Rattle.regen_walk.specs.WalkView.{IsWalkOver};
 use crate::{Walk, WalkFault};
 use ae_nums::Taker;
 use ae_ports::{Failed, SteadySource};
-use ev_format::{Records, Stop};
+use ev_format::{Record, Records, Stop};
 use schema_form::Schema;
 
 /// Why an event file gives no further items.
@@ -38,9 +38,10 @@ pub fn replay<K: Taker>(
     ensures rest { K.same_rest items.old items.new }
 {
     let mut records = Records::start();
+    let mut rec = Record::Fall(0);
     loop {
-        match records.read(schema, events) {
-            Ok((offset, rec)) => match walk.advance(schema, &rec, items) {
+        match records.read(schema, events, &mut rec) {
+            Ok(offset) => match walk.advance(schema, &rec, items) {
                 Ok(_) => {}
                 Err(WalkFault::Astray) => return Ok(Halted::Astray { offset }),
                 Err(WalkFault::Failed) => return Err(Failed),

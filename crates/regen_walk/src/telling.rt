@@ -7,6 +7,7 @@ ghost use Rattle.ev_format.specs.Spelling.{address_in};
 ghost use Rattle.ev_format.specs.declared.record.Record.TheVariants as records;
 ghost use Rattle.schema_form.specs.LookUps.{schema_shape};
 ghost use Rattle.schema_form.specs.SchemaParts.{SchemaParts};
+ghost use Rattle.regen_walk.specs.Decoded.{AreDecoded, IsDecoded};
 ghost use Rattle.regen_walk.specs.Inner.Met.{IsMet, IsSpot};
 ghost use Rattle.regen_walk.specs.Inner.Telling.{edge_record, may_stop, may_tell, HasTold, HasBrokenOff};
 ghost use Rattle.regen_walk.specs.Moves.{needed_at, placed_at};
@@ -14,6 +15,7 @@ ghost use Rattle.regen_walk.specs.WalkView.{IsPlacedBy};
 
 use crate::accesses::{access_by, may_end, put_link, put_written};
 use crate::arcs::goes_quietly;
+use crate::decoded::instr_at;
 use crate::going::{carry_out, give};
 use crate::met::{Met, Spot, met_at};
 use crate::position::Position;
@@ -21,7 +23,7 @@ use crate::registers::put_values;
 use ae_nums::Taker;
 use ae_ports::Failed;
 use ev_format::{Record, Shape, Values, value_count};
-use rv_code::{Class, base, decode};
+use rv_code::{Class, Instr, base, decode};
 use schema_form::{Schema, gives_value, is_indirect, place_of};
 
 /// A position, and the place of the code word that it names.
@@ -118,19 +120,21 @@ fn tell_edge<K: Taker>(
     schema: &Schema,
     spot: Spot,
     met: Met,
+    instr: &Instr,
     taken: bool,
     registers: &mut [u32; 32],
     items: &mut K,
 ) -> Result<Stand, Failed>
     requires met { IsMet schema.now spot.address met }
+    requires decoded { IsDecoded met.word.raw instr.now }
     requires may { may_tell schema.now spot.address registers.old (edge_record taken spot.address) ≡ true }
     ensures all { IfOk result (λ stand. HasTold schema.now spot.address registers.old (edge_record taken spot.address) (K.took items.old items.new) stand registers.new) }
     ensures front { OnErr result (HasBrokenOff schema.now spot.address registers.old (edge_record taken spot.address) (K.took items.old items.new)) }
     ensures cause { HasCause (K.faults items.old) (K.faults items.new) result }
     ensures rest { K.same_rest items.old items.new }
 {
-    let access = carry_out(spot.address, met, registers);
-    let next = met.way_of(taken, spot.address).unwrap();
+    let access = carry_out(spot.address, met, instr, registers);
+    let next = met.way_by(taken, instr, spot.address).unwrap();
     give(items, spot.address, access)?;
     Ok(placed_at(schema, next))
 }
@@ -140,21 +144,22 @@ fn tell_value<K: Taker>(
     schema: &Schema,
     spot: Spot,
     met: Met,
+    instr: &Instr,
     value: u32,
     registers: &mut [u32; 32],
     items: &mut K,
 ) -> Result<Stand, Failed>
     requires spot { IsSpot schema.now spot }
     requires met { IsMet schema.now spot.address met }
+    requires decoded { IsDecoded met.word.raw instr.now }
     requires may { may_tell schema.now spot.address registers.old (records.Value spot.address value) ≡ true }
     ensures all { IfOk result (λ stand. HasTold schema.now spot.address registers.old (records.Value spot.address value) (K.took items.old items.new) stand registers.new) }
     ensures front { OnErr result (HasBrokenOff schema.now spot.address registers.old (records.Value spot.address value) (K.took items.old items.new)) }
     ensures cause { HasCause (K.faults items.old) (K.faults items.new) result }
     ensures rest { K.same_rest items.old items.new }
 {
-    let instr = decode(met.word.raw);
-    let access = access_by(&instr, registers);
-    put_written(&instr, registers, value);
+    let access = access_by(instr, registers);
+    put_written(instr, registers, value);
     give(items, spot.address, access)?;
     Ok(Stand {
         position: Position::After {
@@ -170,19 +175,21 @@ fn tell_landing<K: Taker>(
     schema: &Schema,
     address: u32,
     met: Met,
+    instr: &Instr,
     target: u32,
     values: &Values,
     registers: &mut [u32; 32],
     items: &mut K,
 ) -> Result<Stand, Failed>
     requires met { IsMet schema.now address met }
+    requires decoded { IsDecoded met.word.raw instr.now }
     requires may { may_tell schema.now address registers.old (records.Landing address target values.now) ≡ true }
     ensures all { IfOk result (λ stand. HasTold schema.now address registers.old (records.Landing address target values.now) (K.took items.old items.new) stand registers.new) }
     ensures front { OnErr result (HasBrokenOff schema.now address registers.old (records.Landing address target values.now) (K.took items.old items.new)) }
     ensures cause { HasCause (K.faults items.old) (K.faults items.new) result }
     ensures rest { K.same_rest items.old items.new }
 {
-    put_link(&decode(met.word.raw), registers, address);
+    put_link(instr, registers, address);
     put_values(registers, needed_at(schema, target), values.words());
     give(items, address, None)?;
     Ok(placed_at(schema, target))
@@ -216,28 +223,35 @@ fn tell_end<K: Taker>(
 /// `Failed` the taker has a front of them.
 pub fn tell<K: Taker>(
     schema: &Schema,
+    instrs: &[Instr],
     spot: Spot,
     rec: &Record,
     registers: &mut [u32; 32],
     items: &mut K,
 ) -> Result<Stand, Failed>
+    requires decoded { AreDecoded schema.now.words instrs.now }
     requires spot { IsSpot schema.now spot }
     requires address { spot.address ≡ address_in rec.now }
     requires may { may_tell schema.now spot.address registers.old rec.now ≡ true }
     ensures all { IfOk result (λ stand. HasTold schema.now spot.address registers.old rec.now (K.took items.old items.new) stand registers.new) }
+    ensures size { length registers.new ≡ 32 }
     ensures front { OnErr result (HasBrokenOff schema.now spot.address registers.old rec.now (K.took items.old items.new)) }
     ensures cause { HasCause (K.faults items.old) (K.faults items.new) result }
     ensures rest { K.same_rest items.old items.new }
 {
     let met = met_at(schema, spot);
+    let instr = &instr_at(schema, instrs, spot, met);
     match rec {
-        Record::Fall(_) => tell_edge(schema, spot, met, false, registers, items),
-        Record::Taken(_) => tell_edge(schema, spot, met, true, registers, items),
-        Record::Value { value, .. } => tell_value(schema, spot, met, *value, registers, items),
+        Record::Fall(_) => tell_edge(schema, spot, met, instr, false, registers, items),
+        Record::Taken(_) => tell_edge(schema, spot, met, instr, true, registers, items),
+        Record::Value { value, .. } => tell_value(
+            schema, spot, met, instr, *value, registers, items,
+        ),
         Record::Landing { target, values, .. } => tell_landing(
             schema,
             spot.address,
             met,
+            instr,
             *target,
             values,
             registers,

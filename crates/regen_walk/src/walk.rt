@@ -6,6 +6,7 @@ ghost use Rattle.rv_machine.specs.Start.{first_registers};
 ghost use Rattle.regen_path.specs.Arcs.{AreWays};
 ghost use Rattle.regen_walk.specs.declared.position.Position.TheVariants.{Before, After, Stopped};
 ghost use Rattle.regen_walk.specs.declared.turn.WalkFault.TheVariants.{Astray};
+ghost use Rattle.regen_walk.specs.Decoded.{AreDecoded};
 ghost use Rattle.regen_walk.specs.FreeArcs.{quiet_arcs};
 ghost use Rattle.regen_walk.specs.Inner.Goal.{IsGoal};
 ghost use Rattle.regen_walk.specs.Inner.Met.{IsSpot};
@@ -16,6 +17,7 @@ ghost use Rattle.regen_walk.specs.WalkView.{IsWalkOver};
 
 use crate::arcs::quiet_paths;
 use crate::crossing::{Crossing, edge_behind, ends_outside};
+use crate::decoded::decoded;
 use crate::going::{go, leads, scouted};
 use crate::met::{Spot, met_at};
 use crate::position::Position;
@@ -26,6 +28,7 @@ use ae_nums::Taker;
 use ae_ports::Failed;
 use ev_format::Record;
 use regen_path::Paths;
+use rv_code::Instr;
 use schema_form::{Schema, place_of};
 use std::alloc::{AllocError, Global};
 use std::marker::Model;
@@ -36,6 +39,7 @@ pub struct Walk {
     stand: Stand,
     registers: [u32; 32],
     paths: Paths,
+    instrs: Vec<Instr>,
 }
 
 impl Model for Walk {
@@ -49,6 +53,7 @@ impl Model for Walk {
           registers = walk.registers;
           place = walk.stand.place;
           ways = walk.paths;
+          instrs = walk.instrs.items;
         } };
 }
 
@@ -68,11 +73,13 @@ fn turn_by(rec: &Record) -> Turn
 fn goal_of(
     schema: &Schema,
     paths: &Paths,
+    instrs: &[Instr],
     from: Spot,
     registers: &[u32; 32],
     rec: &Record,
 ) -> Option<Spot>
     requires ways { AreWays (quiet_arcs schema.now) (length schema.now.words) paths.now }
+    requires decoded { AreDecoded schema.now.words instrs.now }
     requires from { IsSpot schema.now from }
     ensures some { IfSome result (λ goal. IsGoal schema.now paths.now from registers.now rec.now goal) }
     ensures none { IfNone result ((moved : Moved) → Tells schema.now (Before from.address) registers.now rec.now moved → ⊥) }
@@ -85,7 +92,7 @@ fn goal_of(
     let goal = Spot { address, place };
     let met = met_at(schema, goal);
     let may = if asks_registers(met, rec) {
-        let there = scouted(schema, paths, from, goal, registers);
+        let there = scouted(schema, paths, instrs, from, goal, registers);
         may_tell(schema, address, met, &there, rec)
     } else {
         may_tell(schema, address, met, registers, rec)
@@ -101,10 +108,12 @@ impl Walk {
         ensures over { IfOk result (IsWalkOver schema.now) }
     {
         let paths = quiet_paths(alloc, schema)?;
+        let instrs = decoded(alloc, schema.words.as_slice())?;
         Ok(Walk {
             stand: placed_at(schema, schema.entry),
             registers: first_registers(),
             paths,
+            instrs,
         })
     }
 
@@ -126,8 +135,16 @@ impl Walk {
         ensures cause { HasCause (K.faults items.old) (K.faults items.new) result }
         ensures rest { K.same_rest items.old items.new }
     {
-        go(schema, &self.paths, from, goal, &mut self.registers, items)?;
-        self.stand = tell(schema, goal, rec, &mut self.registers, items)?;
+        go(
+            schema,
+            &self.paths,
+            &self.instrs,
+            from,
+            goal,
+            &mut self.registers,
+            items,
+        )?;
+        self.stand = tell(schema, &self.instrs, goal, rec, &mut self.registers, items)?;
         Ok(())
     }
 
@@ -149,7 +166,14 @@ impl Walk {
         ensures cause { WalkRises (K.faults items.old) (K.faults items.new) result }
         ensures rest { K.same_rest items.old items.new }
     {
-        let Some(goal) = goal_of(schema, &self.paths, from, &self.registers, rec) else {
+        let Some(goal) = goal_of(
+            schema,
+            &self.paths,
+            &self.instrs,
+            from,
+            &self.registers,
+            rec,
+        ) else {
             return Err(WalkFault::Astray);
         };
         match self.go_and_tell(schema, from, goal, rec, items) {

@@ -27,14 +27,14 @@ loop-offset-preserved g c =
     let left = c.loop-offset.events in
     let rest = c.read.new.source in
     let place : Place = c.loop-offset.invariant.0 in
-    let next : Place = place_behind c.in-Ok.offset c.in-Ok.rec in
-    let one = at_place c.loop-offset.records place (λ at. ReadsOne shape at left rest (c.in-Ok.offset, c.in-Ok.rec) × (c.read.new.self ≡ Ok next)) c.loop-offset.invariant.1
+    let next : Place = place_behind c.in-Ok.offset c.read.new.rec in
+    let one = at_place c.loop-offset.records place (λ at. ReadsOne shape at left rest (c.in-Ok.offset, c.read.new.rec) × (c.read.new.self ≡ Ok next)) c.loop-offset.invariant.1
     c.in-Ok.ensures.whole in
     let moves = c.in-Ok-advance.ensures.moves in (
       next,
       one.1,
       one_replayed c.args.schema.now c.requires.over.valid c.args.events.now place left rest c.loop-offset.walk _ _ _
-          (g.met.K.Taker.took_both c.args.items.now c.loop-offset.items c.advance.new.items) c.loop-offset.invariant.2 (c.in-Ok.offset, c.in-Ok.rec) one.0
+          (g.met.K.Taker.took_both c.args.items.now c.loop-offset.items c.advance.new.items) c.loop-offset.invariant.2 (c.in-Ok.offset, c.read.new.rec) one.0
           c.advance.new.self moves.0 moves.1 moves.2,
       c.in-Ok-advance.ensures.over,
       c.in-Ok-advance.ensures.cause ∙ c.loop-offset.invariant.4,
@@ -47,14 +47,14 @@ returns-in-Err-Astray-clause-all g c =
     let left = c.loop-offset.events in
     let rest = c.read.new.source in
     let place : Place = c.loop-offset.invariant.0 in
-    let next : Place = place_behind c.in-Ok.offset c.in-Ok.rec in
-    let one = at_place c.loop-offset.records place (λ at. ReadsOne shape at left rest (c.in-Ok.offset, c.in-Ok.rec) × (c.read.new.self ≡ Ok next)) c.loop-offset.invariant.1
+    let next : Place = place_behind c.in-Ok.offset c.read.new.rec in
+    let one = at_place c.loop-offset.records place (λ at. ReadsOne shape at left rest (c.in-Ok.offset, c.read.new.rec) × (c.read.new.self ≡ Ok next)) c.loop-offset.invariant.1
     c.in-Ok.ensures.whole in
     let so_far = c.loop-offset.invariant.2 in (
       so_far.moved.items,
       gone_astray c.args.schema.now c.requires.over.valid c.args.events.now place left rest c.loop-offset.walk _ _ (g.K.Taker.took c.args.items.now c.advance.new.items)
-          (g.met.K.Taker.took_both c.args.items.now c.loop-offset.items c.advance.new.items) so_far (c.in-Ok.offset, c.in-Ok.rec) one.0 c.advance.new.self
-          (subst (λ (fault : WalkFault). AdvancesFrom c.args.schema.now c.loop-offset.walk.position c.loop-offset.walk c.in-Ok.rec (g.K.Taker.took c.loop-offset.items c.advance.new.items) c.advance.new.self (Err fault))
+          (g.met.K.Taker.took_both c.args.items.now c.loop-offset.items c.advance.new.items) so_far (c.in-Ok.offset, c.read.new.rec) one.0 c.advance.new.self
+          (subst (λ (fault : WalkFault). AdvancesFrom c.args.schema.now c.loop-offset.walk.position c.loop-offset.walk c.read.new.rec (g.K.Taker.took c.loop-offset.items c.advance.new.items) c.advance.new.self (Err fault))
           c.in-Err-Astray.field-0-is c.in-Err-Astray.ensures.moves),
       subst (λ items. g.K.Taker.took c.args.items.now items so_far.moved.items) (sym (c.advance.ensures.untouched (c.in-Err-Astray.is ∙ ap (λ (fault : WalkFault). Err fault) c.in-Err-Astray.field-0-is))) so_far.given,
     )
@@ -65,12 +65,12 @@ returns-in-Err-Failed-clause-front g c =
     let left = c.loop-offset.events in
     let rest = c.read.new.source in
     let place : Place = c.loop-offset.invariant.0 in
-    let next : Place = place_behind c.in-Ok.offset c.in-Ok.rec in
-    let one = at_place c.loop-offset.records place (λ at. ReadsOne shape at left rest (c.in-Ok.offset, c.in-Ok.rec) × (c.read.new.self ≡ Ok next)) c.loop-offset.invariant.1
+    let next : Place = place_behind c.in-Ok.offset c.read.new.rec in
+    let one = at_place c.loop-offset.records place (λ at. ReadsOne shape at left rest (c.in-Ok.offset, c.read.new.rec) × (c.read.new.self ≡ Ok next)) c.loop-offset.invariant.1
     c.in-Ok.ensures.whole in
     broken_off c.args.schema.now c.requires.over.valid c.args.events.now place left rest c.loop-offset.walk _ _ _
-    (g.met.K.Taker.took_both c.args.items.now c.loop-offset.items c.advance.new.items) c.loop-offset.invariant.2 (c.in-Ok.offset, c.in-Ok.rec) one.0
-    (subst (λ (fault : WalkFault). AdvancesFrom c.args.schema.now c.loop-offset.walk.position c.loop-offset.walk c.in-Ok.rec (g.K.Taker.took c.loop-offset.items c.advance.new.items) c.advance.new.self (Err fault))
+    (g.met.K.Taker.took_both c.args.items.now c.loop-offset.items c.advance.new.items) c.loop-offset.invariant.2 (c.in-Ok.offset, c.read.new.rec) one.0
+    (subst (λ (fault : WalkFault). AdvancesFrom c.args.schema.now c.loop-offset.walk.position c.loop-offset.walk c.read.new.rec (g.K.Taker.took c.loop-offset.items c.advance.new.items) c.advance.new.self (Err fault))
     c.in-Err-Failed.field-0-is c.in-Err-Failed.ensures.moves)
 
 pub returns-in-Err-Failed-clause-cause : goal.returns-in-Err-Failed-clause-cause

@@ -10,7 +10,7 @@ use Rattle.regen_walk.proofs.telling.tell_edge.Goals as goal
 pub unwrap-next-requires : goal.unwrap-next-requires
 unwrap-next-requires g c =
     let marked = edge_marked c.args.schema.now c.args.spot.address c.args.met c.requires.met c.args.taken c.args.registers.now c.requires.may in
-    subst IsSome (sym c.way_of.ensures) (c.requires.met.marked c.args.taken marked)
+    subst IsSome (sym c.way_by.ensures) (c.requires.met.marked c.args.taken marked)
 
 pub returns-in_err-give-clause-front : goal.returns-in_err-give-clause-front
 returns-in_err-give-clause-front g c =
@@ -24,7 +24,7 @@ returns-in_err-give-clause-front g c =
       moved = record { items = items_at c.args.spot.address access; position = position; registers = now };
       made =
           edge_made c.args.schema.now c.args.spot.address c.args.met c.requires.met c.args.taken c.args.registers.now now access quiet marked c.carry_out-access.ensures c.unwrap-next.result position
-          (sym c.way_of.ensures ∙ c.unwrap-next.ensures) refl;
+          (sym c.way_by.ensures ∙ c.unwrap-next.ensures) refl;
       front = c.in_err-give.ensures.front;
     }
     in
@@ -40,7 +40,7 @@ returns-clause-all g c =
       moved = record { items = items_at c.args.spot.address access; position = c.placed_at.result.position; registers = now };
       made =
           edge_made c.args.schema.now c.args.spot.address c.args.met c.requires.met c.args.taken c.args.registers.now now access quiet marked c.carry_out-access.ensures c.unwrap-next.result
-          c.placed_at.result.position (sym c.way_of.ensures ∙ c.unwrap-next.ensures) c.placed_at.ensures.position;
+          c.placed_at.result.position (sym c.way_by.ensures ∙ c.unwrap-next.ensures) c.placed_at.ensures.position;
       given = c.in_ok-give.ensures.all;
       position = refl;
       registers = refl;

@@ -40,7 +40,7 @@ returns-clause-all g c =
       registers =
           c.put_values.ensures
           ∙ ap (λ (registers : List ℕ). with_values registers (registers_of c.needed_at.result) c.words.result.now)
-          (c.put_link.ensures ∙ ap (λ (instr : Instr). with_written instr c.args.registers.now (c.args.address + 4)) c.decode.ensures.meaning)
+          (c.put_link.ensures ∙ ap (λ (instr : Instr). with_written instr c.args.registers.now (c.args.address + 4)) c.requires.decoded.meaning)
           ∙ ap (λ (numbers : List ℕ). with_values after numbers c.words.result.now) c.needed_at.ensures.numbers
           ∙ ap (with_values after (needed_at c.args.schema.now c.args.target)) c.words.ensures.same;
       placed = c.placed_at.ensures.placed;

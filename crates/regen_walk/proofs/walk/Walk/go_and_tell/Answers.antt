@@ -1,4 +1,4 @@
-use Rattle.std.proofs.Common.{◌≡◌, ℕ, List, ap, sym, subst}
+use Rattle.std.proofs.Common.{◌≡◌, ℕ, List, ap, sym, subst, rules}
 use Rattle.ae_ports.proofs.LawsOfFaults.{OnErr-always}
 use Rattle.regen_path.specs.declared.arcs.Ways.{Ways}
 use Rattle.regen_path.specs.Arcs.{HasArc}
@@ -62,3 +62,6 @@ returns-clause-all g c =
         registers = told.registers;
       },
     )
+
+pub returns-clause-over : goal.returns-clause-over
+returns-clause-over g c = record { ways = search rules; decoded = search rules; placed = search rules; registers = c.tell.ensures.size; valid = search rules }
