@@ -2,6 +2,7 @@ ghost use Rattle.ae_ports.specs.Memory.{IsCopy};
 
 /// Copies the bytes from the offset `from` on into the front of `buf`, all that are there and have room, and answers
 /// how many.
+#[inline(always)]
 pub fn copy_from(bytes: &[u8], from: u64, buf: &mut [u8]) -> usize
     ensures { IsCopy bytes.now from buf.old buf.new result }
 {
@@ -9,7 +10,11 @@ pub fn copy_from(bytes: &[u8], from: u64, buf: &mut [u8]) -> usize
         return 0;
     }
     let rest = &bytes[from as usize..];
-    let count = rest.len().min(buf.len());
-    buf[..count].copy_from_slice(&rest[..count]);
-    count
+    let count = buf.len();
+    if count <= rest.len() {
+        buf.copy_from_slice(&rest[..count]);
+        return count;
+    }
+    buf[..rest.len()].copy_from_slice(rest);
+    rest.len()
 }

@@ -41,6 +41,7 @@ impl Source for SteadySource {
     ghost same_rest = { λ _ _. Unit {0} };
 
     /// Moves as many bytes as are left and have room. It never fails.
+    #[inline(always)]
     fn read(&mut self, buf: &mut [u8]) -> Result<usize, Failed>
         ensures within { IfOk result (λ count. count ≤ length buf.old) }
         ensures content { Reads (Some self.old) (Some self.new) buf.new result }

@@ -29,6 +29,7 @@ impl Ways {
     };
 
     /// Where the arc of this kind leads, if there is one.
+    #[inline(always)]
     pub fn by(&self, kind: u8) -> Option<u32>
         ensures { result ≡ way_by self.now kind }
     {

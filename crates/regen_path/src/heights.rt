@@ -16,6 +16,7 @@ pub struct Span {
 
 impl Span {
     /// Whether the number is one of these.
+    #[inline(always)]
     pub fn holds(&self, number: u32) -> bool
         ensures { IsTrue result ↔ ((self.now.first ≤ number) × (number ≤ self.now.last)) }
     {

@@ -45,6 +45,7 @@ pub struct Spot {
 impl Spot {
     /// Whether a directed walk leads from this node to the other: it rises to one that is at or above the other, and what is at or
     /// above it sinks to the other.
+    #[inline(always)]
     fn reaches(&self, goal: &Spot) -> bool
         ensures { IsTrue result ↔ RisesAndSinks self.now goal.now }
     {
@@ -94,6 +95,7 @@ fn spots_in(alloc: Global, ways: Vec<Ways>) -> Result<Vec<Spot>, AllocError>
 }
 
 /// Whether there is this arc, and a directed walk leads on from its end to the goal.
+#[inline(always)]
 fn leads_on(spots: &[Spot], way: Option<u32>, goal: u32) -> bool
     requires spots { AreSpots spots.now }
     requires way { (to : ℕ) → way ≡ Some to → to < length spots.now }
@@ -107,6 +109,7 @@ fn leads_on(spots: &[Spot], way: Option<u32>, goal: u32) -> bool
 }
 
 /// Which way to go first from here to the goal.
+#[inline(always)]
 fn hop_in(spots: &[Spot], here: u32, goal: u32) -> Hop
     requires spots { AreSpots spots.now }
     requires here { here < length spots.now }
@@ -163,6 +166,7 @@ impl Paths {
 
     /// The way of the first arc of the only directed walk from here to the goal: `Here` where they are the same node, and `NoWay` exactly
     /// where no directed walk leads there. It is a few comparisons, whatever the forest, and takes no memory.
+    #[inline(always)]
     pub fn next(&self, here: u32, goal: u32) -> Hop
         requires here { here < length self.now }
         requires goal { goal < length self.now }
@@ -175,6 +179,7 @@ impl Paths {
     }
 
     /// Where the arc of a kind out of a node leads, if there is one.
+    #[inline(always)]
     pub fn way(&self, here: u32, kind: u8) -> Option<u32>
         requires here { here < length self.now }
         ensures { result ≡ way_from self.now kind here }

@@ -11,6 +11,7 @@ impl Extent {
     ghost use Rattle.rv_code.specs.Code.{is_word_of};
 
     /// Whether a code word of this extent stands at the address.
+    #[inline(always)]
     pub fn has_word(&self, address: u32) -> bool
         ensures { result ≡ is_word_of self.now address }
     {

@@ -25,6 +25,7 @@ impl<T> ListOf<T> {
     }
 
     /// The items, in order.
+    #[inline(always)]
     pub fn as_slice(&self) -> &[T]
         ensures { result.now ≡ self.now }
     {

@@ -26,6 +26,7 @@ pub fn class_of(instr: &Instr) -> Class
     }
 }
 
+#[inline(always)]
 fn but_zero(register: u8) -> Option<u8>
     ensures { result ≡ but_zero register }
 {
@@ -37,6 +38,7 @@ fn but_zero(register: u8) -> Option<u8>
 
 /// The register that an instruction writes, if any. A write to x0 keeps nothing and is none (manual, section 2.1); a call
 /// of the system answers in x10.
+#[inline(always)]
 pub fn writes(instr: &Instr) -> Option<u8>
     ensures { result ≡ written_by instr.now }
 {
@@ -117,6 +119,7 @@ pub fn reads(instr: &Instr) -> u32
 }
 
 // so many bytes past an address, modulo 2^32
+#[inline(always)]
 fn address_past(address: u32, bytes: i32) -> u32
     ensures { result ≡ wrap (address + unsigned bytes) }
 {
@@ -125,6 +128,7 @@ fn address_past(address: u32, bytes: i32) -> u32
 
 /// The address where a direct jump or branch at `address` leads, modulo 2^32 (manual, section 2.5). `None` for each other
 /// instruction.
+#[inline(always)]
 pub fn target(instr: &Instr, address: u32) -> Option<u32>
     ensures { result ≡ target_of instr.now address }
 {

@@ -142,6 +142,7 @@ pub fn on_registers(op: ImmOp) -> RegOp
 
 /// What an instruction of the class `Plain` that stands at `address` writes to its register, where it writes one; `a` and
 /// `b` are the values of rs1 and rs2 (manual, sections 2.4, 13.1 and 13.2).
+#[inline]
 pub fn result_of(instr: &Instr, address: u32, a: u32, b: u32) -> u32
     requires fits { Fits instr.now }
     requires plain { class_of instr.now ≡ Class.Plain }

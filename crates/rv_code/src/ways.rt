@@ -7,6 +7,7 @@ ghost use Rattle.rv_code.specs.Successors.{listed};
 use crate::{Class, Instr, class_of, target};
 
 /// Whether an instruction of the class may go on to the next address: all but jumps, indirect jumps and stops.
+#[inline(always)]
 pub fn falls(class: Class) -> bool
     ensures { result ≡ falls class }
 {
