@@ -1,11 +1,11 @@
 -- Masks and their registers: a register is one of a mask where its bit is set, and a mask is made again of its registers.
-use Rattle.std.proofs.Common.{◌≡◌, ℕ, zero, suc, ◌+◌, ◌*◌, ◌%◌, ◌^◌, ◌<◌, ◌≤◌, Bool, true, false, cond, eqb, ◌&&◌, List, [], ◌∷◌, refl, sym, ap, subst, ◌∙◌, inl, inr, arith}
+use Rattle.std.proofs.Common.{◌≡◌, ℕ, zero, suc, ◌+◌, ◌*◌, ◌%◌, ◌^◌, ◌<◌, ◌≤◌, Bool, true, false, cond, eqb, ◌&&◌, [], ◌∷◌, refl, sym, ap, ◌∙◌, inl, inr, arith}
 use Rattle.std.specs.Prelude.{bit_and, filter}
 use Rattle.std.specs.Int.{bit_at, bit_not, trailing_zeros, w32}
 use Rattle.std.specs.List.{list_any, range_with_len}
 use Rattle.std.proofs.lemmas.Bool.{cases_eq, cases_lt, eq-eqb, eqb-true, ne_eqb}
 use Rattle.std.proofs.lemmas.Map.Views.{any-filter_same}
-use Rattle.std.proofs.lemmas.Nat.Bits.{bit_at-lt, bit_at-zero, bit_at_lowest, bit_at_or, bit_at_and, bit_at_mask_inside, bit_at_above, bit_at-pow_same, bit_at-pow_other, bit_at-trailing_zeros, bit_at_clear_same, bit_at_clear_other, same_from_bits}
+use Rattle.std.proofs.lemmas.Nat.Bits.{bit_at-lt, bit_at_lowest, bit_at_and, bit_at_mask_inside, bit_at_above, bit_at-trailing_zeros, bit_at_clear_same, bit_at_clear_other, same_from_bits}
 use Rattle.rv_code.specs.Parts.{mask_of}
 use Rattle.rv_code.proofs.LawsOfMasks.{bit_of-mask_of, lowest_of-mask_of}
 use Rattle.ae_nums.specs.Registers.{registers_of, IsMask}
