@@ -44,6 +44,7 @@ pub fn read_body<S: Source, H: Shape>(
     Ok(())
 }
 
+#[inline(never)]
 fn read_end<S: Source>(at: u32, source: &mut S) -> Result<Record, Halt>
     ensures whole { IfOk result (IsEnd at) }
     ensures taken { IfOk result (λ rec. Consumes (S.told source.old) (S.told source.new) (further_bytes rec)) }
@@ -56,6 +57,7 @@ fn read_end<S: Source>(at: u32, source: &mut S) -> Result<Record, Halt>
     Ok(Record::End { at, kind, detail })
 }
 
+#[inline(never)]
 fn read_landing<S: Source, H: Shape>(at: u32, shape: &H, source: &mut S) -> Result<Record, Halt>
     ensures whole { IfOk result (IsOf (H.shown shape.now) kinds.Landing at) }
     ensures taken { IfOk result (λ rec. Consumes (S.told source.old) (S.told source.new) (further_bytes rec)) }

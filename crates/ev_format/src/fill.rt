@@ -10,6 +10,7 @@ use ae_nums::take_u32;
 use ae_ports::Source;
 
 /// Fills a piece, in as many calls as the source needs. It is cut where the source ends before.
+#[inline(always)]
 pub fn fill<S: Source>(source: &mut S, piece: &mut [u8]) -> Result<(), Halt>
     ensures full { OnOk result (Consumes (S.told source.old) (S.told source.new) piece.new) }
     ensures short { IfErr result (IfStopped (S.told source.old) (FallsShort (length piece.old))) }
@@ -28,6 +29,7 @@ pub fn fill<S: Source>(source: &mut S, piece: &mut [u8]) -> Result<(), Halt>
 }
 
 /// Reads a word, lowest byte first. It is cut where the source ends before.
+#[inline(always)]
 pub fn read_word<S: Source>(source: &mut S) -> Result<u32, Halt>
     ensures word { IfOk result (λ word. Consumes (S.told source.old) (S.told source.new) (bytes_of 4 word)) }
     ensures short { IfErr result (IfStopped (S.told source.old) (FallsShort 4)) }

@@ -16,6 +16,7 @@ use ae_ports::Source;
 pub const HEADER_LENGTH: u64 = 16;
 
 /// Reads the header of an event file, which has to be that of the shape.
+#[inline(never)]
 pub fn read_header<S: Source, H: Shape>(shape: &H, source: &mut S) -> Result<(), Halt>
     ensures whole { OnOk result (Consumes (S.told source.old) (S.told source.new) (shape_header (H.shown shape.now))) }
     ensures stopped { IfErr result (IfStopped (S.told source.old) (HeaderStops (H.shown shape.now))) }

@@ -17,6 +17,7 @@ pub enum RecordKind {
 }
 
 /// The kind of the record that has these low bits in its first word and an address of this slot, if there is one.
+#[inline(always)]
 pub fn kind_at(slot: Slot, at: u32, bits: u32) -> Option<RecordKind>
     ensures named { IfSome result (λ kind. (kind_bits kind ≡ bits) × (takes_kind slot at kind ≡ true)) }
     ensures none { IfNone result ((kind : RecordKind) → kind_bits kind ≡ bits → takes_kind slot at kind ≡ false) }

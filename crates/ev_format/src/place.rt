@@ -17,6 +17,7 @@ pub enum Place {
 }
 
 // how many bytes a record has
+#[inline(always)]
 fn length_of(rec: &Record) -> u64
     ensures { result ≡ length (record_bytes rec.now) }
 {
@@ -29,6 +30,7 @@ fn length_of(rec: &Record) -> u64
 }
 
 /// Where reading stands behind a record that begins at `offset`.
+#[inline(always)]
 pub fn place_behind(offset: u64, rec: &Record) -> Place
     ensures { result ≡ place_behind offset rec.now }
 {

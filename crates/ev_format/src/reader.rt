@@ -69,6 +69,7 @@ fn read_record<S: Source, H: Shape>(
 }
 
 // what stands behind an `End`, at this offset
+#[inline(never)]
 fn halt_behind_end<S: Source>(offset: u64, source: &mut S) -> Halt
     ensures stopped { IfStopped (S.told source.old) (EndStops offset) result }
     ensures later { S.faults source.old ≤ S.faults source.new }

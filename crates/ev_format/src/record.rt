@@ -33,7 +33,7 @@ pub enum Record {
 
 impl Record {
     /// The address that the record names.
-    #[inline]
+    #[inline(always)]
     pub fn address(&self) -> u32
         ensures { result ≡ address_in self.now }
     {

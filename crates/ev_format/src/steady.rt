@@ -8,7 +8,7 @@ use ae_ports::SteadySource;
 impl Records {
     /// As [`Records::next`], from bytes in memory, which no read of fails, and into a room of the caller's: the offset of the next record, or
     /// why reading stops; then `rec` is as before. It hasn't stopped before.
-    #[inline]
+    #[inline(always)]
     pub fn read<H: Shape>(
         &mut self,
         shape: &H,

@@ -40,6 +40,7 @@ impl Values {
     }
 
     /// The words, in the order in which they were pushed.
+    #[inline(always)]
     pub fn words(&self) -> &[u32]
         ensures same { result.now ≡ self.now }
         ensures few { length result.now ≤ 31 }

@@ -46,6 +46,7 @@ fn sum_of(registers: &[u32; 32], base: u8, imm: i32) -> u32
 }
 
 /// The bytes that a load reads or a store writes, if the instruction is one.
+#[inline(always)]
 pub fn access_by(instr: &Instr, registers: &[u32; 32]) -> Option<Item>
     requires { HasRegisters instr.now }
     ensures { result ≡ access_by instr.now registers.now }
@@ -82,6 +83,7 @@ fn is_among_bytes(address: u32, size: u8, byte: u32) -> bool
 }
 
 /// Whether an End with this kind and detail may stand for the instruction.
+#[inline(never)]
 pub fn may_end(instr: &Instr, registers: &[u32; 32], kind: u32, detail: u32) -> bool
     requires { HasRegisters instr.now }
     ensures { result ≡ may_end instr.now registers.now kind detail }
@@ -151,6 +153,7 @@ fn operands_of(instr: &Instr, registers: &[u32; 32]) -> (u32, u32)
 }
 
 /// Carries out a Plain instruction that writes a register.
+#[inline(always)]
 pub fn carry_out_plain(instr: &Instr, address: u32, registers: &mut [u32; 32])
     requires registers { HasRegisters instr.now }
     requires fits { Fits instr.now }

@@ -10,6 +10,7 @@ use schema_form::{KEPT, Schema, SchemaWord, class_in, free_edges, is_set};
 use std::alloc::{AllocError, Global};
 
 /// Whether a word of the class goes on by a way, and needs no record for it.
+#[inline(always)]
 pub fn goes_quietly(kept: bool, taken: bool, class: Class) -> bool
     ensures { result ≡ goes_quietly kept taken class }
 {
@@ -33,6 +34,7 @@ fn word_goes_quietly(taken: bool, word: SchemaWord) -> bool
 }
 
 /// The number of an arc's kind, by its way.
+#[inline(always)]
 pub fn kind_number(taken: bool) -> u8
     ensures { result ≡ kind_number taken }
 {

@@ -8,7 +8,7 @@ ghost use Rattle.regen_walk.specs.Moves.{move_outside, names_edge};
 use crate::met::{Spot, met_at};
 use crate::telling::{Stand, placed_at};
 use ev_format::Record;
-use schema_form::{Schema, place_of};
+use schema_form::Schema;
 
 /// What the edge after a word asks for.
 #[derive(Clone, Copy, Debug)]
@@ -47,7 +47,7 @@ pub fn edge_behind(schema: &Schema, spot: Spot, taken: bool, rec: &Record) -> Cr
         }
         return Crossing::Astray;
     }
-    match place_of(schema.stretches.as_slice(), next) {
+    match schema.place_of(next) {
         Some(place) => Crossing::Quiet(Spot {
             address: next,
             place,

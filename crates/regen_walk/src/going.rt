@@ -46,6 +46,7 @@ pub fn carry_out(address: u32, met: Met, instr: &Instr, registers: &mut [u32; 32
 }
 
 /// The way by which to go on from one place towards another. `None` where they are the same, or none leads there.
+#[inline(always)]
 pub fn way_towards(paths: &Paths, here: u32, goal: u32) -> Option<bool>
     requires here { here < length paths.now }
     requires goal { goal < length paths.now }
@@ -60,6 +61,7 @@ pub fn way_towards(paths: &Paths, here: u32, goal: u32) -> Option<bool>
 }
 
 /// Whether moves without a record lead from one place to another.
+#[inline(always)]
 pub fn leads(paths: &Paths, here: u32, goal: u32) -> bool
     requires here { here < length paths.now }
     requires goal { goal < length paths.now }
@@ -73,6 +75,7 @@ pub fn leads(paths: &Paths, here: u32, goal: u32) -> bool
 
 /// Goes on from the word at a spot by a way that needs no record, over the edge of that way. It answers the bytes that the word reads
 /// or writes.
+#[inline(always)]
 pub fn pass(
     schema: &Schema,
     paths: &Paths,
@@ -98,6 +101,7 @@ pub fn pass(
 }
 
 /// Gives a taker the items of a word. After `Failed` it has a front of them.
+#[inline(always)]
 pub fn give<K: Taker>(items: &mut K, address: u32, access: Option<Item>) -> Result<(), Failed>
     ensures all { OnOk result (K.took items.old items.new (items_at address access)) }
     ensures front { OnErr result (TookFront (K.took items.old items.new) (items_at address access)) }
@@ -112,6 +116,7 @@ pub fn give<K: Taker>(items: &mut K, address: u32, access: Option<Item>) -> Resu
 }
 
 /// The registers as they are before the word at the goal, where the walk goes there without a record.
+#[inline(never)]
 pub fn scouted(
     schema: &Schema,
     paths: &Paths,
@@ -141,6 +146,7 @@ pub fn scouted(
 }
 
 /// Goes to before the word at the goal without a record, and gives the items. After `Failed` the taker has a front of them.
+#[inline(always)]
 pub fn go<K: Taker>(
     schema: &Schema,
     paths: &Paths,

@@ -24,7 +24,7 @@ use ae_nums::Taker;
 use ae_ports::Failed;
 use ev_format::{Record, Shape, Values, value_count};
 use rv_code::{Class, Instr, base, decode};
-use schema_form::{Schema, gives_value, is_indirect, place_of};
+use schema_form::{Schema, gives_value, is_indirect};
 
 /// A position, and the place of the code word that it names.
 #[derive(Clone, Copy, Debug, PartialEq, Eq)]
@@ -34,11 +34,12 @@ pub struct Stand {
 }
 
 /// Before the code word at the address, or outside where none stands there.
+#[inline(always)]
 pub fn placed_at(schema: &Schema, address: u32) -> Stand
     ensures position { result.position ≡ placed_at schema.now address }
     ensures placed { IsPlacedBy schema.now result.position result.place }
 {
-    match place_of(schema.stretches.as_slice(), address) {
+    match schema.place_of(address) {
         Some(place) => Stand {
             position: Position::Before(address),
             place,
@@ -62,6 +63,7 @@ fn needed_at(schema: &Schema, target: u32) -> u32
 }
 
 /// Whether a landing may have this target and these values.
+#[inline(never)]
 fn may_land(schema: &Schema, target: u32, values: &Values) -> bool
     ensures { result ≡ (target % 2 == 0 && length values.now == value_count (schema_shape schema.now) target) }
 {
@@ -69,6 +71,7 @@ fn may_land(schema: &Schema, target: u32, values: &Values) -> bool
 }
 
 /// Whether a run may end at a word of a class.
+#[inline(always)]
 fn may_stop(class: Class) -> bool
     ensures { result ≡ may_stop class }
 {
@@ -80,6 +83,7 @@ fn may_stop(class: Class) -> bool
 
 /// Whether it hangs on the registers if the word may give the record: that is so where a run ends at a load or store
 /// with a base.
+#[inline(always)]
 pub fn asks_registers(met: Met, rec: &Record) -> bool
     ensures { result ≡ false → (parts : SchemaParts) (address : ℕ) → IsMet parts address met → address ≡ address_in rec.now →
         (one other : List ℕ) → may_tell parts address one rec.now ≡ may_tell parts address other rec.now }
@@ -91,6 +95,7 @@ pub fn asks_registers(met: Met, rec: &Record) -> bool
 }
 
 /// Whether the word of a record, at an address, may give it, with these registers.
+#[inline(always)]
 pub fn may_tell(
     schema: &Schema,
     address: u32,
@@ -116,6 +121,7 @@ pub fn may_tell(
 }
 
 /// Goes on from a word by a way whose edge is recorded.
+#[inline(always)]
 fn tell_edge<K: Taker>(
     schema: &Schema,
     spot: Spot,
@@ -140,6 +146,7 @@ fn tell_edge<K: Taker>(
 }
 
 /// Takes the value that a load or a call gave.
+#[inline(always)]
 fn tell_value<K: Taker>(
     schema: &Schema,
     spot: Spot,
@@ -171,6 +178,7 @@ fn tell_value<K: Taker>(
 }
 
 /// Lands where an indirect jump went, with the values of the registers that are needed there.
+#[inline(never)]
 fn tell_landing<K: Taker>(
     schema: &Schema,
     address: u32,
@@ -196,6 +204,7 @@ fn tell_landing<K: Taker>(
 }
 
 /// Ends at a word.
+#[inline(never)]
 fn tell_end<K: Taker>(
     schema: &Schema,
     spot: Spot,
@@ -221,6 +230,7 @@ fn tell_end<K: Taker>(
 
 /// Makes the moves from before the word of a record, at a spot, up to and with the one that has it, and gives their items. After
 /// `Failed` the taker has a front of them.
+#[inline(always)]
 pub fn tell<K: Taker>(
     schema: &Schema,
     instrs: &[Instr],

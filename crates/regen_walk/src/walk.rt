@@ -3,6 +3,7 @@ ghost use Rattle.std.specs.Prelude.{◌≡◌, ℕ, ◌≤◌, [], List, Some, N
 ghost use Rattle.ae_ports.specs.Fault.{HasCause};
 ghost use Rattle.ev_format.specs.Spelling.{kind_in};
 ghost use Rattle.rv_machine.specs.Start.{first_registers};
+ghost use Rattle.schema_form.specs.Valid.{IsSchema};
 ghost use Rattle.regen_path.specs.Arcs.{AreWays};
 ghost use Rattle.regen_walk.specs.declared.position.Position.TheVariants.{Before, After, Stopped};
 ghost use Rattle.regen_walk.specs.declared.turn.WalkFault.TheVariants.{Astray};
@@ -29,7 +30,7 @@ use ae_ports::Failed;
 use ev_format::Record;
 use regen_path::Paths;
 use rv_code::Instr;
-use schema_form::{Schema, place_of};
+use schema_form::Schema;
 use std::alloc::{AllocError, Global};
 use std::marker::Model;
 
@@ -58,6 +59,7 @@ impl Model for Walk {
 }
 
 /// How a walk stands after a record.
+#[inline(always)]
 fn turn_by(rec: &Record) -> Turn
     ensures { result ≡ turn_by (kind_in rec.now) }
 {
@@ -70,6 +72,7 @@ fn turn_by(rec: &Record) -> Turn
 }
 
 /// The spot of a record's word, where moves without a record lead there from a spot and the word may then give the record.
+#[inline(always)]
 fn goal_of(
     schema: &Schema,
     paths: &Paths,
@@ -78,6 +81,7 @@ fn goal_of(
     registers: &[u32; 32],
     rec: &Record,
 ) -> Option<Spot>
+    requires valid { IsSchema schema.now }
     requires ways { AreWays (quiet_arcs schema.now) (length schema.now.words) paths.now }
     requires decoded { AreDecoded schema.now.words instrs.now }
     requires from { IsSpot schema.now from }
@@ -85,7 +89,7 @@ fn goal_of(
     ensures none { IfNone result ((moved : Moved) → Tells schema.now (Before from.address) registers.now rec.now moved → ⊥) }
 {
     let address = rec.address();
-    let place = place_of(schema.stretches.as_slice(), address)?;
+    let place = schema.place_of(address)?;
     if !leads(paths, from.place, place) {
         return None;
     }
@@ -118,6 +122,7 @@ impl Walk {
     }
 
     /// Goes from a spot to the goal, and makes the moves that give the record.
+    #[inline(always)]
     fn go_and_tell<K: Taker>(
         &mut self,
         schema: &Schema,
@@ -149,6 +154,7 @@ impl Walk {
     }
 
     /// Makes the moves from a spot up to the one that has the record.
+    #[inline(always)]
     fn advance_from<K: Taker>(
         &mut self,
         schema: &Schema,
@@ -183,6 +189,7 @@ impl Walk {
     }
 
     /// Makes the moves from after the word at a spot.
+    #[inline(never)]
     fn advance_over<K: Taker>(
         &mut self,
         schema: &Schema,
@@ -212,6 +219,7 @@ impl Walk {
     }
 
     /// Ends outside the code.
+    #[inline(never)]
     fn end_outside(&mut self, target: u32, rec: &Record) -> Result<Turn, WalkFault>
         ensures stops { OnOk result ((registers : List ℕ) → move_outside target registers (Tell rec.now) ≡ Some (record { items = []; position = Stopped; registers = registers })) }
         ensures none { OnErr result ((registers : List ℕ) → move_outside target registers (Tell rec.now) ≡ None) }
@@ -232,6 +240,7 @@ impl Walk {
     /// `Astray` is answered exactly where no moves from where the walk stands end with this record as their only one; then the walk is
     /// as before, and no item was given. `Failed` is answered only where the taker failed; it has then a front of the items, and the
     /// walk can't go on.
+    #[inline(always)]
     pub fn advance<K: Taker>(
         &mut self,
         schema: &Schema,

@@ -45,6 +45,7 @@ pub fn class_number(class: Class) -> u32
 }
 
 /// The class with this number among these, if there is one.
+#[inline(always)]
 fn class_among(classes: &[Class], number: u32) -> Option<Class>
     ensures { result ≡ slice_get classes.now number }
 {
@@ -52,6 +53,7 @@ fn class_among(classes: &[Class], number: u32) -> Option<Class>
 }
 
 /// The class that flags name, if there is one with their number.
+#[inline(always)]
 pub fn class_in(flags: u32) -> Option<Class>
     ensures { result ≡ class_in flags }
 {
@@ -59,6 +61,7 @@ pub fn class_in(flags: u32) -> Option<Class>
 }
 
 /// Whether a mark is among the flags.
+#[inline(always)]
 pub fn is_set(mark: u32, flags: u32) -> bool
     requires { 0 < mark }
     ensures { result ≡ is_set mark flags }

@@ -39,6 +39,5 @@ pub use reading::read_schema;
 pub use rules::{way_of, witness_mark};
 pub use rv_code::Extent as Stretch;
 pub use schema::{Schema, gives_value, is_indirect};
-pub use stretches::place_of;
 pub use word::SchemaWord;
 pub use writing::put_schema;

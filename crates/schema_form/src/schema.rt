@@ -1,6 +1,6 @@
 //! A schema, and what it says of the code word at an address.
-ghost use Rattle.std.specs.Prelude.{◌≡◌, ◌<◌, ◌≤◌, IfOk, length};
-ghost use Rattle.rv_code.specs.Places.{address_of};
+ghost use Rattle.std.specs.Prelude.{◌≡◌, ◌<◌, ◌≤◌, IfOk, IfSome, length};
+ghost use Rattle.rv_code.specs.Places.{address_of, place_of};
 ghost use Rattle.schema_form.specs.LookUps.{schema_word_at, slot_by, gives_value, is_indirect, first_start};
 ghost use Rattle.schema_form.specs.Valid.{IsSchema};
 
@@ -37,11 +37,22 @@ impl Model for Schema {
 
 impl Schema {
     /// What the schema has for the code word at the address. `None` exactly where none stands there.
+    #[inline(always)]
     pub fn word_at(&self, address: u32) -> Option<SchemaWord>
         ensures { result ≡ schema_word_at self.now address }
     {
-        let place = place_by(self.stretches.as_slice(), self.before.as_slice(), address)?;
+        let place = self.place_of(address)?;
         Some(self.words.as_slice()[place as usize])
+    }
+
+    /// The place of the code word at the address, counted from 0 in the order of addresses, found by halving. `None` exactly where none
+    /// stands there.
+    #[inline(always)]
+    pub fn place_of(&self, address: u32) -> Option<u32>
+        ensures place { result ≡ place_of self.now.stretches address }
+        ensures below { IfSome result (λ place. place < length self.now.words) }
+    {
+        place_by(self.stretches.as_slice(), self.before.as_slice(), address)
     }
 
     /// The address of the code word at the place, counted from 0 in the order of addresses. `None` exactly where there are fewer words.
@@ -72,7 +83,7 @@ pub fn with_parts(
 }
 
 /// Whether a word of the class gives a value that is recorded.
-#[inline]
+#[inline(always)]
 pub fn gives_value(kept: bool, class: Class) -> bool
     ensures { result ≡ gives_value kept class }
 {
@@ -84,7 +95,7 @@ pub fn gives_value(kept: bool, class: Class) -> bool
 }
 
 /// Whether a word of the class is an indirect jump.
-#[inline]
+#[inline(always)]
 pub fn is_indirect(class: Class) -> bool
     ensures { result ≡ is_indirect class }
 {
@@ -95,6 +106,7 @@ pub fn is_indirect(class: Class) -> bool
 }
 
 /// Which records an address may have, by what a schema has for it.
+#[inline(always)]
 fn slot_by(word: Option<SchemaWord>) -> Slot
     ensures { result ≡ slot_by word }
 {
@@ -146,6 +158,7 @@ impl Shape for Schema {
         self.words.as_slice().len() as u32
     }
 
+    #[inline(always)]
     fn slot(&self, address: u32) -> Slot {
         slot_by(self.word_at(address))
     }

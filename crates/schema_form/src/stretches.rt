@@ -81,6 +81,7 @@ pub fn words_before(alloc: Global, stretches: &[Extent]) -> Result<Vec<u32>, All
 }
 
 /// How many of the stretches start at the address or before it, found by halving.
+#[inline(always)]
 fn begun_by(stretches: &[Extent], address: u32) -> usize
     requires { AreStretches stretches.now }
     ensures count { result ≤ length stretches.now }
@@ -91,6 +92,7 @@ fn begun_by(stretches: &[Extent], address: u32) -> usize
 
 /// The place of the code word at the address, where it is known how many stand before each stretch. `None` exactly where none stands
 /// there.
+#[inline(always)]
 pub fn place_by(stretches: &[Extent], before: &[u32], address: u32) -> Option<u32>
     requires stretches { AreStretches stretches.now }
     requires before { before.now ≡ words_before stretches.now }

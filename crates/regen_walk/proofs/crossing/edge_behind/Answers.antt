@@ -1,7 +1,4 @@
-use Rattle.std.proofs.Common.{List, ◌∙◌, ap, sym}
-use Rattle.rv_code.specs.declared.extent.Extent.{Extent}
-use Rattle.rv_code.specs.Places.{place_of}
-use Rattle.schema_form.specs.SchemaParts.{SchemaParts}
+use Rattle.std.proofs.Common.{◌∙◌, sym}
 use Rattle.regen_walk.proofs.ArcsMade.{none_from}
 use Rattle.regen_walk.proofs.Crossed.{nowhere, other_record, told, quietly, leads_in}
 use Rattle.regen_walk.proofs.crossing.edge_behind.Goals as goal
@@ -21,13 +18,11 @@ returns-then-is_marked c =
 
 pub returns-in-Some-place_of : goal.returns-in-Some-place_of
 returns-in-Some-place_of c =
-    let stretches = c.as_slice.ensures ∙ ap (λ (parts : SchemaParts). parts.stretches) c.schema.view_is in
-    let found = ap (λ (list : List Extent). place_of list c.in-Some.next) (sym stretches) ∙ sym c.place_of.ensures.place ∙ c.in-Some-place_of.is in
+    let found = sym c.place_of.ensures.place ∙ c.in-Some-place_of.is in
     quietly c.args.schema.now c.args.spot c.met_at-met.result c.met_at-met.ensures c.args.taken c.requires c.in-Some.next c.in-Some-place_of.place (sym c.is_marked.ensures ∙ c.if-is_marked.false)
     (sym c.way_of.ensures ∙ c.in-Some.is) found
 
 pub returns-in-None : goal.returns-in-None
 returns-in-None c =
-    let stretches = c.as_slice.ensures ∙ ap (λ (parts : SchemaParts). parts.stretches) c.schema.view_is in
-    let found = ap (λ (list : List Extent). place_of list c.in-Some.next) (sym stretches) ∙ sym c.place_of.ensures.place ∙ c.in-None.is in
+    let found = sym c.place_of.ensures.place ∙ c.in-None.is in
     absurd (leads_in c.args.schema.now c.args.spot c.met_at-met.result c.met_at-met.ensures c.args.taken c.in-Some.next (sym c.is_marked.ensures ∙ c.if-is_marked.false) (sym c.way_of.ensures ∙ c.in-Some.is) found)

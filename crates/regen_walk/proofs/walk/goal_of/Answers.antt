@@ -1,10 +1,7 @@
 use Rattle.std.proofs.Common.{◌≡◌, ℕ, true, false, List, Some, None, ap, sym, subst, ◌∙◌, arith}
-use Rattle.rv_code.specs.declared.extent.Extent.{Extent}
 use Rattle.rv_code.specs.Places.{place_of}
 use Rattle.regen_path.specs.Arcs.{HasArc}
 use Rattle.regen_path.specs.Walks.{IsWalk}
-use Rattle.schema_form.specs.SchemaParts.{SchemaParts}
-use Rattle.schema_form.specs.Valid.{IsSchema}
 use Rattle.regen_walk.specs.declared.position.Position.TheVariants.{Before}
 use Rattle.regen_walk.specs.Inner.Going.{GoesAlong}
 use Rattle.regen_walk.specs.Inner.Telling.{may_tell}
@@ -17,17 +14,16 @@ use Rattle.regen_walk.proofs.walk.goal_of.Goals as goal
 
 pub leads-requires-clause-here : goal.leads-requires-clause-here
 leads-requires-clause-here c =
-    let within = place_within c.args.schema.now (subst IsSchema c.schema.view_is c.schema.invariant.parts) c.args.from c.requires.from in
+    let within = place_within c.args.schema.now c.requires.valid c.args.from c.requires.from in
     omega (arith, within, c.requires.ways.long)
 
 pub returns-in_err-place-clause-none : goal.returns-in_err-place-clause-none
 returns-in_err-place-clause-none c =
     let none : (moved : Moved) → Tells c.args.schema.now (Before c.args.from.address) c.args.registers.now c.args.rec.now moved → ⊥ =
     λ moved tells.
-    let r = reaches c.args.schema.now (subst IsSchema c.schema.view_is c.schema.invariant.parts) c.args.rec.now tells.ways c.args.from c.requires.from c.args.registers.now moved tells.made in
+    let r = reaches c.args.schema.now c.requires.valid c.args.rec.now tells.ways c.args.from c.requires.from c.args.registers.now moved tells.made in
     let clash : Some r.goal.place ≡ None =
     sym r.spot ∙ ap (place_of c.args.schema.now.stretches) (sym r.address ∙ sym c.address-address.ensures)
-    ∙ ap (λ (stretches : List Extent). place_of stretches c.address-address.result) (sym (c.as_slice.ensures ∙ ap (λ (parts : SchemaParts). parts.stretches) c.schema.view_is))
     ∙ sym c.in_err-place.ensures.place
     in
     cc
@@ -36,10 +32,9 @@ returns-in_err-place-clause-none c =
 
 pub returns-then-not-leads-clause-none : goal.returns-then-not-leads-clause-none
 returns-then-not-leads-clause-none c = λ moved tells.
-    let r = reaches c.args.schema.now (subst IsSchema c.schema.view_is c.schema.invariant.parts) c.args.rec.now tells.ways c.args.from c.requires.from c.args.registers.now moved tells.made in
+    let r = reaches c.args.schema.now c.requires.valid c.args.rec.now tells.ways c.args.from c.requires.from c.args.registers.now moved tells.made in
     let both : Some r.goal.place ≡ Some c.in_ok-place.place =
     sym r.spot ∙ ap (place_of c.args.schema.now.stretches) (sym r.address ∙ sym c.address-address.ensures)
-    ∙ ap (λ (stretches : List Extent). place_of stretches c.address-address.result) (sym (c.as_slice.ensures ∙ ap (λ (parts : SchemaParts). parts.stretches) c.schema.view_is))
     ∙ sym c.in_ok-place.ensures.place
     in
     let place : r.goal.place ≡ c.in_ok-place.place = cc in
@@ -49,10 +44,9 @@ returns-then-not-leads-clause-none c = λ moved tells.
 
 pub returns-else-may-clause-none : goal.returns-else-may-clause-none
 returns-else-may-clause-none c = λ moved tells.
-    let r = reaches c.args.schema.now (subst IsSchema c.schema.view_is c.schema.invariant.parts) c.args.rec.now tells.ways c.args.from c.requires.from c.args.registers.now moved tells.made in
+    let r = reaches c.args.schema.now c.requires.valid c.args.rec.now tells.ways c.args.from c.requires.from c.args.registers.now moved tells.made in
     let both : Some r.goal.place ≡ Some c.in_ok-place.place =
     sym r.spot ∙ ap (place_of c.args.schema.now.stretches) (sym r.address ∙ sym c.address-address.ensures)
-    ∙ ap (λ (stretches : List Extent). place_of stretches c.address-address.result) (sym (c.as_slice.ensures ∙ ap (λ (parts : SchemaParts). parts.stretches) c.schema.view_is))
     ∙ sym c.in_ok-place.ensures.place
     in
     let place : r.goal.place ≡ c.in_ok-place.place = cc in
