@@ -1,40 +1,16 @@
 //! What a walk works out of an instruction.
-ghost use Rattle.std.specs.Prelude.{◌≡◌, ◌+◌, ◌<◌, ◌≤◌, ◌^◌, ℕ, IfSome, IsSome};
+ghost use Rattle.std.specs.Prelude.{◌≡◌, ◌+◌, ◌<◌, ◌^◌};
 ghost use Rattle.rv_code.specs.declared.class.Class.TheVariants as classes;
 ghost use Rattle.rv_code.specs.Encoding.{Fits};
 ghost use Rattle.rv_code.specs.Numbers.{wrap, unsigned};
 ghost use Rattle.rv_code.specs.Parts.{HasRegisters, class_of};
-ghost use Rattle.rv_machine.specs.Effect.{load_size, store_size};
 ghost use Rattle.rv_machine.specs.State.{register_of};
 ghost use Rattle.regen_walk.specs.Accesses.{access_by, is_among_bytes, may_end, with_written, operands_of, carried_out_plain};
 
 use crate::registers::{put_value, register_of};
 use ae_nums::Item;
-use rv_code::{Instr, LoadOp, StoreOp, result_of, writes};
-
-/// How many bytes a load reads.
-#[inline(always)]
-fn load_size(op: LoadOp) -> u8
-    ensures { result ≡ load_size op }
-{
-    match op {
-        LoadOp::Lb | LoadOp::Lbu => 1,
-        LoadOp::Lh | LoadOp::Lhu => 2,
-        LoadOp::Lw => 4,
-    }
-}
-
-/// How many bytes a store writes.
-#[inline(always)]
-fn store_size(op: StoreOp) -> u8
-    ensures { result ≡ store_size op }
-{
-    match op {
-        StoreOp::Sb => 1,
-        StoreOp::Sh => 2,
-        StoreOp::Sw => 4,
-    }
-}
+use rv_code::{Instr, result_of, writes};
+use rv_machine::{load_size, store_size};
 
 /// The address that a load or store works out.
 #[inline(always)]

@@ -1,5 +1,5 @@
 -- The event bytes of a run of a rewritten executable: this project's own. An image without a note has none.
-use Rattle.std.specs.Prelude.{ℕ, ◌+◌, ◌-◌, Bool, ◌&&◌, List, [], ◌∷◌, ◌++◌, Option, None, Some, is_none, if◌then◌else◌, ◌==◌, nat_le}
+use Rattle.std.specs.Prelude.{ℕ, ◌+◌, ◌-◌, Bool, ◌&&◌, List, [], ◌++◌, Option, None, Some, is_none, if◌then◌else◌, ◌==◌, nat_le}
 use Rattle.std.specs.List.{fold}
 use Rattle.ae_nums.specs.EventHeader.{event_header}
 use Rattle.rv_code.specs.declared.ending.Ending.{Ending}
@@ -44,15 +44,15 @@ original_by pc found mark = if nat_le mark.from pc then mark.original else found
 abbrev pub original_of : List Mark → (pc : ℕ) → ℕ
 original_of map pc = fold (original_by pc) 0 map
 
--- the address in an End record: 0 where no instruction was carried out, or where it was a jump that came to nothing
-abbrev pub end_address : List Mark → ℕ → Ending → ℕ
-end_address map pc (Exit code) = original_of map pc
-end_address map pc (Illegal word) = original_of map pc
-end_address map pc Breakpoint = original_of map pc
-end_address map pc (LoadFault address) = original_of map pc
-end_address map pc (StoreFault address) = original_of map pc
-end_address map pc (FetchFault address) = 0
-end_address map pc (JumpMisaligned target) = 0
+-- the address in an End record: that of the word, but 0 where none was carried out, or where it was a jump that came to nothing
+abbrev pub address_at_end : (at : ℕ) → Ending → ℕ
+address_at_end at (Exit code) = at
+address_at_end at (Illegal word) = at
+address_at_end at Breakpoint = at
+address_at_end at (LoadFault address) = at
+address_at_end at (StoreFault address) = at
+address_at_end at (FetchFault address) = 0
+address_at_end at (JumpMisaligned target) = 0
 
 -- an End record: an address plus 3, the ending's number and its detail
 abbrev pub end_record : ℕ → Ending → List ℕ
@@ -61,7 +61,7 @@ end_record address ending = bytes_of 4 (address + 3) ++ bytes_of 4 (kind_of endi
 -- the End record of a run that has ended at a pc
 abbrev pub end_of_run : Note → (pc : ℕ) → Option Ending → List ℕ
 end_of_run note pc None = []
-end_of_run note pc (Some ending) = end_record (end_address note.map pc ending) ending
+end_of_run note pc (Some ending) = end_record (address_at_end (original_of note.map pc) ending) ending
 
 -- what comes before all events of a run
 abbrev pub events_before : Option Note → List ℕ

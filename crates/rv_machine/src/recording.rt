@@ -5,7 +5,7 @@ ghost use Rattle.ae_ports.specs.Content.{Appends, AppendsFront};
 ghost use Rattle.ae_ports.specs.Fault.{HasCause};
 ghost use Rattle.rv_code.specs.Endings.{kind_of, detail_of};
 ghost use Rattle.rv_memory.specs.Stretches.{memory_of};
-ghost use Rattle.rv_machine.specs.Events.{event_header_of, drained_to, drained, original_by, original_of, end_address, end_record, end_of_run};
+ghost use Rattle.rv_machine.specs.Events.{address_at_end, event_header_of, drained_to, drained, original_by, original_of, end_record, end_of_run};
 
 use crate::buffers::{is_mapped, send};
 use ae_nums::{event_header, put_u32};
@@ -76,7 +76,7 @@ fn original_of(map: &[Mark], pc: u32) -> u32
 
 /// The address in the record of an ending at a pc.
 fn end_address(map: &[Mark], pc: u32, ending: Ending) -> u32
-    ensures { result ≡ end_address map.now pc ending }
+    ensures { result ≡ address_at_end (original_of map.now pc) ending }
 {
     match ending {
         Ending::Exit(_)

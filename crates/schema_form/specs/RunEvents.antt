@@ -6,6 +6,7 @@ use Rattle.rv_code.specs.declared.ending.Ending.TheVariants.{Exit, Illegal, Brea
 use Rattle.rv_code.specs.declared.image.Image.{Image}
 use Rattle.rv_code.specs.Endings.{kind_of, detail_of}
 use Rattle.rv_code.specs.Table.{meaning_of}
+use Rattle.rv_machine.specs.Events.{address_at_end}
 use Rattle.rv_machine.specs.State.{State, register_of}
 use Rattle.rv_machine.specs.Effect.{Effect, Passes, Sets, Stores, Jumps, Gives, Takes, Ends}
 use Rattle.rv_machine.specs.Calls.{effect_of}
@@ -25,16 +26,6 @@ recorded_if may rec = if may then rec ∷ [] else []
 -- the values of the registers that a target needs
 abbrev pub values_needed : (needs : Option ℕ) → (registers : List ℕ) → List ℕ
 values_needed needs registers = map (register_of registers) (registers_needed needs)
-
--- the address in an End record: that of the word, but 0 where none was carried out, or where it was a jump that came to nothing
-abbrev pub address_at_end : (at : ℕ) → Ending → ℕ
-address_at_end at (Exit code) = at
-address_at_end at (Illegal word) = at
-address_at_end at Breakpoint = at
-address_at_end at (LoadFault address) = at
-address_at_end at (StoreFault address) = at
-address_at_end at (FetchFault address) = 0
-address_at_end at (JumpMisaligned target) = 0
 
 abbrev pub end_event : (at : ℕ) → Ending → Record
 end_event at ending = End (address_at_end at ending) (kind_of ending) (detail_of ending)

@@ -1,5 +1,5 @@
 //! The first edge, among those that aren't recorded, that closes a cycle.
-ghost use Rattle.std.specs.Prelude.{◌≡◌, ◌↔◌, ◌<◌, ◌≤◌, ◌^◌, ℕ, false, IsTrue, IfOk, MatchOption, length, replicate};
+ghost use Rattle.std.specs.Prelude.{◌≡◌, ◌↔◌, ◌<◌, ◌≤◌, ◌^◌, false, IsTrue, IfOk, MatchOption, length, replicate};
 ghost use Rattle.std.specs.List.{AllByRecursion};
 ghost use Rattle.graph_paths.specs.Forests.{HasNoCycle};
 ghost use Rattle.flow_tree.specs.WitnessEdges.{Joins};

@@ -1,6 +1,5 @@
 //! Which bytes are refused as a schema before its code words are looked at.
-ghost use Rattle.std.specs.Prelude.{◌≡◌, ◌≤◌, length, None};
-ghost use Rattle.schema_form.specs.Layout.{stretch_count, stretch_offset};
+ghost use Rattle.std.specs.Prelude.{◌≡◌, ◌≤◌, None};
 ghost use Rattle.schema_form.specs.Refusal.{header_misfits, front_refusal, stretch_misfits, stretch_refusal};
 
 use crate::numbers::{stretch_from, word_from};

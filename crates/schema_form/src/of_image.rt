@@ -1,7 +1,7 @@
 //! The schema of an image.
 ghost use Rattle.std.specs.Prelude.{◌≡◌, ◌↔◌, ◌⊎◌, ◌<◌, ◌^◌, ℕ, Bool, true, false, List, Some, None, IfOk, IsTrue, length};
 ghost use Rattle.std.specs.List.{AllByRecursion, slice_index_or};
-ghost use Rattle.rv_code.specs.Code.{extent_of, extents_of, is_code};
+ghost use Rattle.rv_code.specs.Code.{extent_of, extents_of};
 ghost use Rattle.rv_code.specs.Image.{word_count};
 ghost use Rattle.rv_code.specs.Places.{AreCodeExtents, EndsInSpace, address_of};
 ghost use Rattle.flow_graph.specs.CodeParts.{code_parts, has_code};

@@ -4,7 +4,6 @@ ghost use Rattle.schema_form.specs.Inner.Heads.{AreHeadOf};
 ghost use Rattle.schema_form.specs.Layout.{stretch_count, stretch_offset, stretches_from, schema_words_from, word_offset, words_total};
 ghost use Rattle.schema_form.specs.Refusal.{head_refusal, body_refusal};
 ghost use Rattle.schema_form.specs.Spells.{Spells, RefusedBy};
-ghost use Rattle.schema_form.specs.Valid.{AreStretches};
 
 use crate::cycles::first_cycle;
 use crate::front::{front_refusal, stretch_refusal};

@@ -1,6 +1,5 @@
 //! What a schema may have for a code word.
 ghost use Rattle.std.specs.Prelude.{◌≡◌};
-ghost use Rattle.rv_code.specs.Code.{is_code};
 ghost use Rattle.schema_form.specs.Rules.{raw_fits, witness_mark, way_of, edge_misfits, misfits_as, word_misfits};
 
 use crate::SchemaWord;

@@ -1,7 +1,7 @@
 //! A schema, and what it says of the code word at an address.
-ghost use Rattle.std.specs.Prelude.{◌≡◌, ◌<◌, ◌≤◌, IfOk, IfSome, length};
+ghost use Rattle.std.specs.Prelude.{◌≡◌, ◌<◌, IfOk, IfSome, length};
 ghost use Rattle.rv_code.specs.Places.{address_of, place_of};
-ghost use Rattle.schema_form.specs.LookUps.{schema_word_at, slot_by, gives_value, is_indirect, first_start};
+ghost use Rattle.schema_form.specs.LookUps.{schema_word_at, slot_by, gives_value, is_indirect};
 ghost use Rattle.schema_form.specs.Valid.{IsSchema};
 
 use crate::SchemaWord;

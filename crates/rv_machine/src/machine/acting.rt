@@ -1,5 +1,5 @@
 //! Carrying out instructions: a function for each form.
-ghost use Rattle.std.specs.Prelude.{◌≡◌, ◌⊎◌, ℕ, ◌+◌, ◌^◌, ◌<◌, List, None};
+ghost use Rattle.std.specs.Prelude.{◌≡◌, ℕ, ◌+◌, ◌^◌, ◌<◌, List, None};
 ghost use Rattle.rv_code.specs.Numbers.{wrap, unsigned, sign_extended, number_of};
 ghost use Rattle.rv_code.specs.Parts.{HasRegisters};
 ghost use Rattle.rv_machine.specs.Inner.Advance.{ActsAlone, ActsUnlessCall, Acts, GoesOn, Settles, at, load_in, made_of, made_at, made_by, store_in};
@@ -8,7 +8,7 @@ ghost use Rattle.rv_machine.specs.Ports.{HasCauses, tells, counts};
 ghost use Rattle.rv_machine.specs.State.{register_of, with_register};
 
 use crate::acted::{Acted, Alone, Gone};
-use crate::{Machine, MachineFault};
+use crate::{Machine, MachineFault, load_size, store_size};
 use ae_nums::Item;
 use ae_ports::{Sink, Source};
 use rv_code::{
@@ -165,7 +165,7 @@ impl Machine {
         requires { rd < 32 }
         ensures { ActsAlone (made_of (load_in op rd address self.old) (at pc self.old)) pc self.old result self.new }
     {
-        let size = size_of_load(op);
+        let size = load_size(op);
         match self.loaded.read(address, size) {
             Ok(bits) => {
                 self.set(rd, extended(op, bits));
@@ -196,7 +196,7 @@ impl Machine {
     fn store_as(&mut self, pc: u32, op: StoreOp, address: u32, value: u32) -> Alone
         ensures { ActsAlone (made_of (store_in op value address self.old) (at pc self.old)) pc self.old result self.new }
     {
-        let size = size_of_store(op);
+        let size = store_size(op);
         match self.loaded.write(address, size, value) {
             Ok(()) => Alone::Went(on_from(pc, Some(Item::Write { address, size }))),
             Err(hole) => Alone::Ended(Ending::StoreFault(hole.address)),
@@ -264,32 +264,6 @@ fn on_from(pc: u32, access: Option<Item>) -> Gone
     Gone {
         next: pc.wrapping_add(4),
         access,
-    }
-}
-
-/// The bytes of a load.
-#[inline(always)]
-fn size_of_load(op: LoadOp) -> u8
-    ensures size { result ≡ load_size op }
-    ensures small { (result ≡ 1) ⊎ ((result ≡ 2) ⊎ (result ≡ 4)) }
-{
-    match op {
-        LoadOp::Lb | LoadOp::Lbu => 1,
-        LoadOp::Lh | LoadOp::Lhu => 2,
-        LoadOp::Lw => 4,
-    }
-}
-
-/// The bytes of a store.
-#[inline(always)]
-fn size_of_store(op: StoreOp) -> u8
-    ensures size { result ≡ store_size op }
-    ensures small { (result ≡ 1) ⊎ ((result ≡ 2) ⊎ (result ≡ 4)) }
-{
-    match op {
-        StoreOp::Sb => 1,
-        StoreOp::Sh => 2,
-        StoreOp::Sw => 4,
     }
 }
 

@@ -1,7 +1,6 @@
-use Rattle.std.proofs.Common.{◌≡◌, ◌++◌, ℕ, List, Some, OnOk, OnErr, ap, rules, subst}
+use Rattle.std.proofs.Common.{◌≡◌, ℕ, List, Some, OnOk, OnErr, ap, rules, subst}
 use Rattle.ae_ports.specs.Content.{Appends, AppendsFront}
 use Rattle.rv_memory.specs.Stretches.{memory_of}
-use Rattle.rv_machine.specs.Events.{drained, end_of_run, events_behind}
 use Rattle.rv_machine.specs.Held.{ending_by}
 use Rattle.rv_machine.proofs.Recorded.{rest_of}
 use Rattle.rv_machine.proofs.machine.Machine.give_tail.Goals as goal
