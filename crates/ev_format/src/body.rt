@@ -38,36 +38,45 @@ pub fn read_body<S: Source, H: Shape>(
             let value = read_word(source)?;
             *rec = Record::Value { at, value };
         }
-        RecordKind::Landing => *rec = read_landing(at, shape, source)?,
-        RecordKind::End => *rec = read_end(at, source)?,
+        RecordKind::Landing => read_landing(at, shape, source, rec)?,
+        RecordKind::End => read_end(at, source, rec)?,
     }
     Ok(())
 }
 
 #[inline(never)]
-fn read_end<S: Source>(at: u32, source: &mut S) -> Result<Record, Halt>
-    ensures whole { IfOk result (IsEnd at) }
-    ensures taken { IfOk result (λ rec. Consumes (S.told source.old) (S.told source.new) (further_bytes rec)) }
+fn read_end<S: Source>(at: u32, source: &mut S, rec: &mut Record) -> Result<(), Halt>
+    ensures whole { OnOk result (IsEnd at rec.new) }
+    ensures taken { OnOk result (Consumes (S.told source.old) (S.told source.new) (further_bytes rec.new)) }
+    ensures unread { IfErr result (λ _. rec.new ≡ rec.old) }
     ensures short { IfErr result (IfStopped (S.told source.old) (FallsShort 8)) }
     ensures cause { HasRisenBy (S.faults source.old) (S.faults source.new) result }
     ensures rest { S.same_rest source.old source.new }
 {
     let kind = read_word(source)?;
     let detail = read_word(source)?;
-    Ok(Record::End { at, kind, detail })
+    *rec = Record::End { at, kind, detail };
+    Ok(())
 }
 
 #[inline(never)]
-fn read_landing<S: Source, H: Shape>(at: u32, shape: &H, source: &mut S) -> Result<Record, Halt>
-    ensures whole { IfOk result (IsOf (H.shown shape.now) kinds.Landing at) }
-    ensures taken { IfOk result (λ rec. Consumes (S.told source.old) (S.told source.new) (further_bytes rec)) }
+fn read_landing<S: Source, H: Shape>(
+    at: u32,
+    shape: &H,
+    source: &mut S,
+    rec: &mut Record,
+) -> Result<(), Halt>
+    ensures whole { OnOk result (IsOf (H.shown shape.now) kinds.Landing at rec.new) }
+    ensures taken { OnOk result (Consumes (S.told source.old) (S.told source.new) (further_bytes rec.new)) }
+    ensures unread { IfErr result (λ _. rec.new ≡ rec.old) }
     ensures stopped { IfErr result (IfStopped (S.told source.old) (BodyStops (H.shown shape.now) kinds.Landing at)) }
     ensures cause { HasRisenBy (S.faults source.old) (S.faults source.new) result }
     ensures rest { S.same_rest source.old source.new }
 {
     let target = read_word(source)?;
     let values = read_values(value_count(shape, target), source)?;
-    Ok(Record::Landing { at, target, values })
+    *rec = Record::Landing { at, target, values };
+    Ok(())
 }
 
 /// How many values a landing at this target has: one for each register that is needed there, none where no code word stands there.

@@ -1,5 +1,5 @@
 //! Pieces of a given size from a source.
-ghost use Rattle.std.specs.Prelude.{◌≡◌, ◌<◌, List, ℕ, length, IfOk, IfErr, OnOk};
+ghost use Rattle.std.specs.Prelude.{◌<◌, length, IfOk, IfErr, OnOk};
 ghost use Rattle.ae_ports.specs.Content.{Consumes};
 ghost use Rattle.rv_code.specs.Numbers.{bytes_of};
 ghost use Rattle.ev_format.specs.Answers.{IfStopped};

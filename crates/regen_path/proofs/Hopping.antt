@@ -117,6 +117,30 @@ module _ (table : List Ways) (forest : HasNoCycle ArcJoins (HasArc table)) (from
   finds_walk Taken (by_taken apart to is path) some = path_walk (over {mid = to} (record { from = from; to = to; kind = 1 }) is (refl, refl) path)
   finds_walk NoWay (nowhere apart none) some = absurd (some refl)
 
+  -- the arc of a kind from whose end a walk leads on, and the rest of that walk
+  walk_with : (kind to : ℕ) → way_from table kind from ≡ Some to → Path ArcLeads (HasArc table) to goal
+      → (rest : List Arc) × IsOnlyWalk (HasArc table) from goal (record { from = from; to = to; kind = kind } ∷ rest)
+  walk_with kind to is path =
+      let (rest, walks) = path_walk path in
+      let first : Arc = record { from = from; to = to; kind = kind } in (
+        rest,
+        is_only (first ∷ rest)
+            (record {
+              within = λ other among. elim among [ inl equal ↦ subst (HasArc table) (sym equal) is | inr behind ↦ walks.within other behind ];
+              trail = (to, (refl, refl), walks.trail);
+            }),
+      )
+
+  pub first_fall : (to : ℕ) → way_from table 0 from ≡ Some to → Finds table from goal Fall → (rest : List Arc) × IsOnlyWalk (HasArc table) from goal (record { from = from; to = to; kind = 0 } ∷ rest)
+  first_fall to way (by_fall apart next is path) =
+      let equal : next ≡ to = same_Some next to (sym is ∙ way) in
+      walk_with 0 to way (subst (λ (n : ℕ). Path ArcLeads (HasArc table) n goal) equal path)
+
+  pub first_taken : (to : ℕ) → way_from table 1 from ≡ Some to → Finds table from goal Taken → (rest : List Arc) × IsOnlyWalk (HasArc table) from goal (record { from = from; to = to; kind = 1 } ∷ rest)
+  first_taken to way (by_taken apart next is path) =
+      let equal : next ≡ to = same_Some next to (sym is ∙ way) in
+      walk_with 1 to way (subst (λ (n : ℕ). Path ArcLeads (HasArc table) n goal) equal path)
+
   no_way_walk : (walk : List Arc) → NoWay ≡ first_hop walk → ⊥
   no_way_walk [] clash = cc clash
   no_way_walk (arc ∷ rest) clash = fall_or_taken (eqb arc.kind 0) clash

@@ -1,10 +1,10 @@
 //! Paths in a forest, and which way to go first.
-ghost use Rattle.std.specs.Prelude.{◌≡◌, ◌≢◌, ◌<◌, ◌^◌, ◌↔◌, ℕ, IfOk, IsTrue, List, Option, Some, None, length, slice_get};
+ghost use Rattle.std.specs.Prelude.{◌≡◌, ◌≢◌, ◌<◌, ◌^◌, ◌↔◌, ◌∷◌, ℕ, IfNone, IfOk, IfSome, IsTrue, List, Option, Some, None, length, slice_get};
 ghost use Rattle.graph_paths.specs.Paths.{Path};
 ghost use Rattle.graph_paths.specs.Forests.{HasNoCycle, IsAmong};
 ghost use Rattle.regen_path.specs.declared.arcs.Arc.{Arc};
 ghost use Rattle.regen_path.specs.declared.paths.Hop.TheVariants.{Here, NoWay};
-ghost use Rattle.regen_path.specs.Arcs.{HasArc, AreWays, way_from};
+ghost use Rattle.regen_path.specs.Arcs.{HasArc, AreWays};
 ghost use Rattle.regen_path.specs.Walks.{ArcJoins, ArcLeads, IsWalk, IsOnlyWalk};
 ghost use Rattle.regen_path.specs.Hops.{first_hop};
 ghost use Rattle.regen_path.specs.PathsView.{AreSpots, RisesAndSinks, ways_in};
@@ -128,6 +128,31 @@ fn hop_in(spots: &[Spot], here: u32, goal: u32) -> Hop
     }
 }
 
+/// The arc by which to go first from here to the goal, if there is one.
+#[inline(always)]
+fn arc_in(spots: &[Spot], here: u32, goal: u32) -> Option<Arc>
+    requires spots { AreSpots spots.now }
+    requires here { here < length spots.now }
+    requires goal { goal < length spots.now }
+    ensures none { IfNone result ((walk : List Arc) → IsWalk (HasArc (ways_in spots.now)) here goal walk → here ≡ goal) }
+    ensures some { IfSome result (λ arc. (rest : List Arc) × IsOnlyWalk (HasArc (ways_in spots.now)) here goal (arc ∷ rest)) }
+{
+    let ways = spots[here as usize].ways;
+    match hop_in(spots, here, goal) {
+        Hop::Fall => Some(Arc {
+            from: here,
+            to: ways.fall.unwrap(),
+            kind: 0,
+        }),
+        Hop::Taken => Some(Arc {
+            from: here,
+            to: ways.taken.unwrap(),
+            kind: 1,
+        }),
+        Hop::NoWay | Hop::Here => None,
+    }
+}
+
 /// The paths in a forest of arcs. Contracts see where the arcs out of each node lead.
 #[derive(Drop)]
 pub struct Paths {
@@ -178,12 +203,14 @@ impl Paths {
         hop_in(self.spots.as_slice(), here, goal)
     }
 
-    /// Where the arc of a kind out of a node leads, if there is one.
+    /// The first arc of the only directed walk from here to the goal: `None` where they are the same node, or none leads there.
     #[inline(always)]
-    pub fn way(&self, here: u32, kind: u8) -> Option<u32>
+    pub fn first(&self, here: u32, goal: u32) -> Option<Arc>
         requires here { here < length self.now }
-        ensures { result ≡ way_from self.now kind here }
+        requires goal { goal < length self.now }
+        ensures none { IfNone result ((walk : List Arc) → IsWalk (HasArc self.now) here goal walk → here ≡ goal) }
+        ensures some { IfSome result (λ arc. (rest : List Arc) × IsOnlyWalk (HasArc self.now) here goal (arc ∷ rest)) }
     {
-        self.spots.as_slice()[here as usize].ways.by(kind)
+        arc_in(self.spots.as_slice(), here, goal)
     }
 }

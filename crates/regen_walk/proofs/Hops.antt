@@ -1,14 +1,14 @@
 -- The arc by which a walk begins.
-use Rattle.std.proofs.Common.{◌≡◌, inl, inr, ℕ, zero, suc, ◌<◌, Bool, true, false, cond, eqb, List, [], ◌∷◌, Option, Some, None, refl, sym, ap, ◌∙◌, arith}
+use Rattle.std.proofs.Common.{◌≡◌, inl, inr, ℕ, zero, suc, ◌<◌, cond, eqb, List, ◌∷◌, Option, Some, None, refl, sym, ap, ◌∙◌, arith}
 use Rattle.std.specs.Prelude.{slice_get}
 use Rattle.std.specs.Option.{option_and_then}
 use Rattle.std.proofs.lemmas.Bool.{cases_eq, ne_eqb}
 use Rattle.regen_path.specs.declared.arcs.Arc.{Arc}
 use Rattle.regen_path.specs.declared.arcs.Ways.{Ways}
-use Rattle.regen_path.specs.declared.paths.Hop.TheVariants.{Fall, Taken}
 use Rattle.regen_path.specs.Arcs.{way_by, way_from, HasArc}
-use Rattle.regen_path.specs.Hops.{first_hop}
 use Rattle.regen_path.specs.Walks.{IsWalk}
+use Rattle.regen_walk.specs.FreeArcs.{kind_number}
+use Rattle.regen_walk.specs.Inner.Going.{LeadsOn}
 
 by_kind : (ways : Ways) (kind to : ℕ) → way_by ways kind ≡ Some to → kind < 2
 by_kind ways kind to is = elim (cases_eq kind 0) [
@@ -30,18 +30,22 @@ by_ways (Some ways) kind to is = by_kind ways kind to is
 pub kind_low : (table : List Ways) (kind from to : ℕ) → way_from table kind from ≡ Some to → kind < 2
 kind_low table kind from to is = by_ways (slice_get table from) kind to is
 
-not_zero : (b : Bool) → Taken ≡ cond b Fall Taken → b ≡ false
-not_zero true is = absurd (cc is)
-not_zero false is = refl
+-- the kind of an arc is the number of its way
+pub kind_by_way : (kind : ℕ) → kind < 2 → kind ≡ kind_number (eqb kind 1)
+kind_by_way zero low = refl
+kind_by_way (suc zero) low = refl
+kind_by_way (suc (suc kind)) low = absurd (omega (arith, low))
 
-eqb_zero : (kind : ℕ) → eqb kind 0 ≡ false → kind < 2 → kind ≡ 1
-eqb_zero zero is low = absurd (cc is)
-eqb_zero (suc zero) is low = refl
-eqb_zero (suc (suc kind)) is low = absurd (omega (arith, low))
-
--- a walk that begins by a way that is taken
-pub begins_taken : (table : List Ways) (here goal : ℕ) (walk : List Arc) → IsWalk (HasArc table) here goal walk → Taken ≡ first_hop walk
-    → (arc : Arc) × (rest : List Arc) × (arc.kind ≡ 1) × IsWalk (HasArc table) here goal (arc ∷ rest)
-begins_taken table here goal [] walks is = absurd (cc is)
-begins_taken table here goal (arc ∷ rest) walks is =
-    (arc, rest, eqb_zero arc.kind (not_zero (eqb arc.kind 0) is) (kind_low table arc.kind arc.from arc.to (walks.within arc (inl refl))), walks)
+-- by its first arc a walk leads on
+pub begins_by : (table : List Ways) (here goal : ℕ) (arc : Arc) (rest : List Arc) → IsWalk (HasArc table) here goal (arc ∷ rest)
+    → LeadsOn table here goal (record { taken = eqb arc.kind 1; place = arc.to })
+begins_by table here goal arc rest walks =
+    let has = walks.within arc (inl refl) in
+    let kind = kind_by_way arc.kind (kind_low table arc.kind arc.from arc.to has) in
+    record {
+      arc = arc;
+      rest = rest;
+      walks = walks;
+      kind = kind;
+      way = ap (λ (k : ℕ). way_from table k here) (sym kind) ∙ ap (way_from table arc.kind) (sym walks.trail.1.0) ∙ has;
+    }

@@ -1,6 +1,7 @@
 pub mod LawsOfWalks
 mod ArcsMade
 mod Bytes
+mod Carried
 mod Counts
 mod Crossed
 mod Elsewhere

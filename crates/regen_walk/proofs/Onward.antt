@@ -1,5 +1,5 @@
 -- The rest of a way can be walked.
-use Rattle.std.proofs.Common.{◌≡◌, inl, inr, ℕ, zero, suc, ◌+◌, ◌<◌, ◌≤◌, eqb, List, [], ◌∷◌, ◌++◌, length, map, take, Some, refl, sym, ap, subst, ◌∙◌, arith}
+use Rattle.std.proofs.Common.{◌≡◌, inl, inr, ℕ, ◌+◌, ◌≤◌, eqb, List, [], ◌∷◌, ◌++◌, length, map, take, Some, refl, sym, ap, subst, ◌∙◌, arith}
 use Rattle.std.proofs.lemmas.List.{length-append, take-append-le}
 use Rattle.std.proofs.Math.Seq.{take-append-add}
 use Rattle.ae_nums.specs.declared.item.Item.{Item}
@@ -21,17 +21,11 @@ use Rattle.regen_walk.specs.Inner.Met.{IsSpot}
 use Rattle.regen_walk.specs.Inner.OnTheWay.{IsOnTheWay}
 use Rattle.regen_walk.specs.Labels.{Quiet}
 use Rattle.regen_walk.specs.Walks.{walk_from}
-use Rattle.regen_walk.proofs.Hops.{kind_low}
+use Rattle.regen_walk.proofs.Hops.{kind_by_way, kind_low}
 use Rattle.regen_walk.proofs.Passing.{quiet_step, goes_over}
 use Rattle.regen_walk.proofs.Shortness.{walks_same}
 use Rattle.regen_walk.proofs.Towards.{forest_in, labels_both, walk_both}
 use Rattle.regen_walk.proofs.WordsMet.{met_of}
-
--- the kind of an arc is the number of its way
-kind_by : (kind : ℕ) → kind < 2 → kind ≡ kind_number (eqb kind 1)
-kind_by zero low = refl
-kind_by (suc zero) low = refl
-kind_by (suc (suc kind)) low = absurd (omega (arith, low))
 
 -- a front of the items that were taken in between is one of all
 pub front_within : (took : List Item → Type 0) (before between behind : List Item) (count : ℕ) → count ≤ length between → took (before ++ take count between) → TookFront took ((before ++ between) ++ behind)
@@ -63,7 +57,7 @@ module _ (parts : SchemaParts) (valid : IsSchema parts) (ways : List Ways) (are 
   may_go (arc ∷ walk) spot there before walks =
       let led = walks.trail.1 in
       let has = walks.within arc (inl refl) in
-      let kind = kind_by arc.kind (kind_low ways arc.kind arc.from arc.to has) in
+      let kind = kind_by_way arc.kind (kind_low ways arc.kind arc.from arc.to has) in
       let way : way_from ways (kind_number (eqb arc.kind 1)) spot.place ≡ Some arc.to =
       ap (λ (k : ℕ). way_from ways k spot.place) (sym kind) ∙ ap (way_from ways arc.kind) (sym led.0) ∙ has
       in

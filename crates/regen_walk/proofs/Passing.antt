@@ -1,5 +1,5 @@
 -- Going on over an edge without a record.
-use Rattle.std.proofs.Common.{◌≡◌, ℕ, Bool, true, false, cond, List, [], ◌∷◌, ◌++◌, length, Option, Some, None, refl, sym, ap, subst, ◌∙◌}
+use Rattle.std.proofs.Common.{◌≡◌, ℕ, ◌+◌, Bool, true, false, cond, List, [], ◌∷◌, ◌++◌, length, Option, Some, None, refl, sym, ap, subst, ◌∙◌}
 use Rattle.std.specs.Prelude.{slice_get}
 use Rattle.std.specs.Option.{option_and_then, option_map, option_map_or}
 use Rattle.std.proofs.lemmas.List.{append-nil}
@@ -7,7 +7,11 @@ use Rattle.std.proofs.lemmas.Option.{slice_get-get_or}
 use Rattle.ae_nums.specs.declared.item.Item.{Item}
 use Rattle.rv_code.specs.declared.class.Class.{Class}
 use Rattle.rv_code.specs.declared.extent.Extent.{Extent}
+use Rattle.rv_code.specs.Numbers.{wrap}
+use Rattle.rv_code.specs.Parts.{target_of}
 use Rattle.rv_code.specs.Places.{address_of, place_of}
+use Rattle.rv_code.specs.Table.{meaning_of}
+use Rattle.rv_code.specs.Ways.{falls}
 use Rattle.rv_code.proofs.LawsOfLookUps.{address_of-place_of}
 use Rattle.flow_graph.specs.declared.edge.Edge.{Edge}
 use Rattle.flow_graph.specs.Edges.{kind_by, is_taken_kind}
@@ -162,3 +166,17 @@ module _ (parts : SchemaParts) (valid : IsSchema parts) (spot : Spot) (there : I
             (move_before parts spot.address met before (Quiet taken) is ∙ s.is)
             (ap (λ (p : Position). move_of parts p s.moved.registers (Quiet taken)) s.position ∙ over taken place q s.moved.registers),
       )
+
+-- where a way leads that is there
+pub way_there : (taken : Bool) (class : Class) (raw at to : ℕ) → way_of taken class raw at ≡ Some to → taken ≡ true → target_of (meaning_of raw) at ≡ Some to
+way_there true class raw at to way is = way
+way_there false class raw at to way is = absurd (cc is)
+
+fallen : (does_fall : Bool) (next to : ℕ) → cond does_fall (Some next) None ≡ Some to → to ≡ next
+fallen true next to way = let both : Some to ≡ Some next = sym way in cc
+fallen false next to way = absurd (cc way)
+
+pub led_there : (taken : Bool) (class : Class) (raw at to led : ℕ) → way_of taken class raw at ≡ Some to → (taken ≡ true → target_of (meaning_of raw) at ≡ Some led) → (taken ≡ false → led ≡ wrap (at + 4))
+    → to ≡ led
+led_there true class raw at to led way by_target by_fall = let both : Some to ≡ Some led = sym way ∙ by_target refl in cc
+led_there false class raw at to led way by_target by_fall = fallen (falls class) (wrap (at + 4)) to way ∙ sym (by_fall refl)

@@ -1,8 +1,8 @@
 -- What a valid schema says of a word.
-use Rattle.std.proofs.Common.{◌≡◌, ℕ, ◌<◌, ◌%◌, Bool, true, false, eqb, List, length, get_or, Option, Some, None, refl, sym, ap, subst, ◌∙◌, arith}
+use Rattle.std.proofs.Common.{◌≡◌, ℕ, ◌<◌, ◌%◌, Bool, true, false, cond, eqb, List, length, get_or, Option, Some, None, refl, sym, ap, subst, ◌∙◌, arith}
 use Rattle.std.specs.Prelude.{◌&&◌, ◌||◌, ◌==◌, not, nat_le, is_some, slice_get, IsSome}
 use Rattle.std.specs.Option.{option_and_then, option_map_or}
-use Rattle.std.proofs.lemmas.Bool.{and_parts, or_parts}
+use Rattle.std.proofs.lemmas.Bool.{and_parts, eqb-true, or_parts}
 use Rattle.std.proofs.lemmas.List.Sums.{sum-map}
 use Rattle.std.proofs.lemmas.Option.{slice_get-get_or}
 use Rattle.rv_code.specs.declared.class.Class.{Class}
@@ -15,7 +15,7 @@ use Rattle.rv_code.specs.Parts.{class_of, written_by}
 use Rattle.rv_code.specs.Table.{meaning_of}
 use Rattle.rv_code.proofs.LawsOfLookUps.{address_of-place_of, place_of-below}
 use Rattle.rv_code.proofs.LawsOfPlaces.{length-code_addresses}
-use Rattle.schema_form.specs.declared.flags.TheConstants.{FALL_WITNESS, TAKEN_WITNESS, KEPT}
+use Rattle.schema_form.specs.declared.flags.TheConstants.{CLASSES, FALL_WITNESS, TAKEN_WITNESS, KEPT}
 use Rattle.schema_form.specs.declared.word.SchemaWord.{SchemaWord}
 use Rattle.schema_form.specs.Flags.{class_in, class_number, is_set, may_be_kept}
 use Rattle.schema_form.specs.Rules.{raw_fits, witness_mark, way_of, edge_misfits, misfits_as}
@@ -41,6 +41,46 @@ raw_plain : (class : Class) (kept : Bool) (raw : ℕ) → class ≡ Plain → ke
 raw_plain class kept raw is_plain is_kept fits =
     let here : raw_fits Plain true raw ≡ true = ap (λ (c : Class). raw_fits c true raw) (sym is_plain) ∙ ap (λ (k : Bool). raw_fits class k raw) (sym is_kept) ∙ fits in
     plain_number (class_of (meaning_of raw)) (and_parts (eqb (class_number (class_of (meaning_of raw))) 0) (is_some (written_by (meaning_of raw))) here).0
+
+-- one that isn't kept is left out
+raw_left_out : (class : Class) (kept : Bool) (raw : ℕ) → class ≡ Plain → kept ≡ false → raw_fits class kept raw ≡ true → raw ≡ 0
+raw_left_out class kept raw is_plain is_kept fits =
+    let here : raw_fits Plain false raw ≡ true = ap (λ (c : Class). raw_fits c false raw) (sym is_plain) ∙ ap (λ (k : Bool). raw_fits class k raw) (sym is_kept) ∙ fits in
+    eqb-true raw 0 here
+
+numbered : (class : Class) → slice_get CLASSES (class_number class) ≡ Some class
+numbered Plain = refl
+numbered Load = refl
+numbered Store = refl
+numbered Branch = refl
+numbered Jump = refl
+numbered Indirect = refl
+numbered Call = refl
+numbered Stop = refl
+
+-- classes with one number are one
+one_class : (one other : Class) → eqb (class_number one) (class_number other) ≡ true → one ≡ other
+one_class one other is =
+    let both : Some one ≡ Some other = sym (numbered one) ∙ ap (slice_get CLASSES) (eqb-true (class_number one) (class_number other) is) ∙ numbered other in
+    cc
+
+not_plain : (class : Class) → (class ≡ Plain → ⊥) → eqb (class_number class) 0 ≡ false
+not_plain Plain other = absurd (other refl)
+not_plain Load other = refl
+not_plain Store other = refl
+not_plain Branch other = refl
+not_plain Jump other = refl
+not_plain Indirect other = refl
+not_plain Call other = refl
+not_plain Stop other = refl
+
+-- the raw word of another class
+raw_other : (class : Class) (kept : Bool) (raw : ℕ) → (class ≡ Plain → ⊥) → raw_fits class kept raw ≡ true → class_of (meaning_of raw) ≡ class
+raw_other class kept raw other fits =
+    let here : (eqb (class_number (class_of (meaning_of raw))) (class_number class) && (not kept || is_some (written_by (meaning_of raw)))) ≡ true =
+    ap (λ b. cond (b && not kept) (raw == 0) (eqb (class_number (class_of (meaning_of raw))) (class_number class) && (not kept || is_some (written_by (meaning_of raw))))) (sym (not_plain class other)) ∙ fits
+    in
+    one_class (class_of (meaning_of raw)) class (and_parts (eqb (class_number (class_of (meaning_of raw))) (class_number class)) (not kept || is_some (written_by (meaning_of raw))) here).0
 
 call_number : (instr : Instr) → eqb (class_number (class_of instr)) 6 ≡ true → instr ≡ instrs.Ecall
 call_number (instrs.Lui rd imm) is = absurd (cc is)
@@ -129,6 +169,8 @@ module _ (parts : SchemaParts) (is : IsSchema parts) where
         there = ap (option_and_then (slice_get parts.words)) there ∙ at;
         named = named;
         plain = λ plain kept. raw_plain class (is_set KEPT word.flags) word.raw plain kept fits.raw;
+        left_out = λ plain kept. raw_left_out class (is_set KEPT word.flags) word.raw plain kept fits.raw;
+        other = λ other. raw_other class (is_set KEPT word.flags) word.raw other fits.raw;
         call = λ call. raw_call class (is_set KEPT word.flags) word.raw call fits.raw;
         inner = λ taken to way free. inner_edge parts.stretches (way_of taken class word.raw spot.address) (is_set (witness_mark taken) word.flags) to (fits.edges taken) way free;
         marked = λ taken marked. marked_edge parts.stretches (way_of taken class word.raw spot.address) (is_set (witness_mark taken) word.flags) (fits.edges taken) marked;

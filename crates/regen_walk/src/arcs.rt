@@ -35,7 +35,7 @@ fn word_goes_quietly(taken: bool, word: SchemaWord) -> bool
 
 /// The number of an arc's kind, by its way.
 #[inline(always)]
-pub fn kind_number(taken: bool) -> u8
+fn kind_number(taken: bool) -> u8
     ensures { result ≡ kind_number taken }
 {
     if taken { 1 } else { 0 }

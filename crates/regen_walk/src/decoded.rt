@@ -1,9 +1,13 @@
 //! The instructions of a schema's words, decoded once.
 ghost use Rattle.std.specs.Prelude.{IfOk};
+ghost use Rattle.rv_code.specs.Encoding.{Fits};
+ghost use Rattle.rv_code.specs.Parts.{HasRegisters};
+ghost use Rattle.schema_form.specs.Valid.{IsSchema};
+ghost use Rattle.regen_walk.specs.declared.met.Met.{Met};
 ghost use Rattle.regen_walk.specs.Decoded.{AreDecoded, IsDecoded};
 ghost use Rattle.regen_walk.specs.Inner.Met.{IsMet, IsSpot};
 
-use crate::met::{Met, Spot};
+use crate::met::Spot;
 use rv_code::{Instr, decode};
 use schema_form::{Schema, SchemaWord};
 use std::alloc::{AllocError, Global};
@@ -21,11 +25,13 @@ pub fn decoded(alloc: Global, words: &[SchemaWord]) -> Result<Vec<Instr>, AllocE
 
 /// What the word at a spot means.
 #[inline(always)]
-pub fn instr_at(schema: &Schema, instrs: &[Instr], spot: Spot, met: Met) -> Instr
+pub fn instr_at(schema: &Schema, instrs: &[Instr], spot: Spot) -> Instr
+    requires valid { IsSchema schema.now }
     requires decoded { AreDecoded schema.now.words instrs.now }
     requires spot { IsSpot schema.now spot }
-    requires met { IsMet schema.now spot.address met }
-    ensures { IsDecoded met.word.raw result }
+    ensures decoded { (met : Met) → IsMet schema.now spot.address met → IsDecoded met.word.raw result }
+    ensures registers { HasRegisters result }
+    ensures fits { Fits result }
 {
     instrs[spot.place as usize]
 }

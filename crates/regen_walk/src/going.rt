@@ -1,63 +1,77 @@
 //! Going on from word to word, where no record is needed.
-ghost use Rattle.std.specs.Prelude.{◌≡◌, ◌↔◌, ℕ, ◌∷◌, ◌<◌, List, Some, IfNone, IfSome, IsSome, IsTrue, OnOk, OnErr, length};
+ghost use Rattle.std.specs.Prelude.{◌≡◌, ◌↔◌, ℕ, ◌<◌, ◌+◌, true, false, List, Some, IfNone, IfSome, IsSome, IsTrue, OnOk, OnErr, length};
 ghost use Rattle.ae_ports.specs.Fault.{HasCause};
 ghost use Rattle.ae_nums.specs.declared.item.Item.{Item};
+ghost use Rattle.rv_code.specs.Encoding.{Fits};
+ghost use Rattle.rv_code.specs.Numbers.{wrap};
+ghost use Rattle.rv_code.specs.Parts.{HasRegisters, target_of};
 ghost use Rattle.rv_machine.specs.Outcomes.{TookFront};
-ghost use Rattle.schema_form.specs.SchemaParts.{SchemaParts};
+ghost use Rattle.schema_form.specs.Valid.{IsSchema};
 ghost use Rattle.regen_path.specs.declared.arcs.Arc.{Arc};
 ghost use Rattle.regen_path.specs.Arcs.{AreWays, HasArc, way_from};
 ghost use Rattle.regen_path.specs.Walks.{IsWalk};
-ghost use Rattle.regen_walk.specs.Decoded.{AreDecoded, IsDecoded};
+ghost use Rattle.regen_walk.specs.Accesses.{access_by};
+ghost use Rattle.regen_walk.specs.Decoded.{AreDecoded};
 ghost use Rattle.regen_walk.specs.FreeArcs.{kind_number, quiet_arcs};
-ghost use Rattle.regen_walk.specs.Inner.Going.{IsCarriedOut, GoesAlong, items_at, PassesOver};
-ghost use Rattle.regen_walk.specs.Inner.Met.{IsMet, IsSpot};
+ghost use Rattle.regen_walk.specs.Inner.Going.{GoesAlong, LeadsOn, items_at, registers_behind, PassesOver};
+ghost use Rattle.regen_walk.specs.Inner.Met.{IsSpot};
 
 use crate::accesses::{access_by, carry_out_plain, put_link};
-use crate::arcs::kind_number;
 use crate::decoded::instr_at;
-use crate::met::{Met, Spot, met_at};
+use crate::met::Spot;
 use ae_nums::{Item, Taker};
 use ae_ports::Failed;
 use regen_path::{Hop, Paths};
-use rv_code::{Class, Instr};
+use rv_code::{Instr, target};
 use schema_form::Schema;
 
-/// Carries out a word that goes on without a record, and answers the bytes that it reads or writes.
+/// A way that needs no record, and the place of the word that it leads to.
+#[derive(Clone, Copy, Debug, PartialEq, Eq)]
+pub struct Onward {
+    pub taken: bool,
+    pub place: u32,
+}
+
+/// Carries out an instruction that goes on without a record, as far as a walk needs it, and answers the bytes that it reads or writes.
 #[inline(always)]
-pub fn carry_out(address: u32, met: Met, instr: &Instr, registers: &mut [u32; 32]) -> Option<Item>
-    requires met { (parts : SchemaParts) × IsMet parts address met }
-    requires decoded { IsDecoded met.word.raw instr.now }
-    ensures { IsCarriedOut address met registers.old result registers.new }
+pub fn carry_out(instr: &Instr, address: u32, registers: &mut [u32; 32]) -> Option<Item>
+    requires registers { HasRegisters instr.now }
+    requires fits { Fits instr.now }
+    ensures access { result ≡ access_by instr.now registers.old }
+    ensures registers { registers.new ≡ registers_behind instr.now address registers.old }
 {
-    match met.class {
-        Class::Plain => {
-            if met.is_kept() {
-                carry_out_plain(instr, address, registers);
-            }
+    match *instr {
+        Instr::Load { .. } | Instr::Store { .. } => access_by(instr, registers),
+        Instr::Lui { .. } | Instr::Auipc { .. } | Instr::OpImm { .. } | Instr::Op { .. } => {
+            carry_out_plain(instr, address, registers);
             None
         }
-        Class::Load | Class::Store => access_by(instr, registers),
-        Class::Jump => {
+        Instr::Jal { .. } => {
             put_link(instr, registers, address);
             None
         }
-        Class::Branch | Class::Indirect | Class::Call | Class::Stop => None,
+        Instr::Jalr { .. }
+        | Instr::Branch { .. }
+        | Instr::Fence(_)
+        | Instr::Ecall
+        | Instr::Ebreak
+        | Instr::Bad(_) => None,
     }
 }
 
 /// The way by which to go on from one place towards another. `None` where they are the same, or none leads there.
 #[inline(always)]
-pub fn way_towards(paths: &Paths, here: u32, goal: u32) -> Option<bool>
+pub fn way_towards(paths: &Paths, here: u32, goal: u32) -> Option<Onward>
     requires here { here < length paths.now }
     requires goal { goal < length paths.now }
     ensures none { IfNone result ((walk : List Arc) → IsWalk (HasArc paths.now) here goal walk → here ≡ goal) }
-    ensures some { IfSome result (λ taken. (arc : Arc) × (rest : List Arc) × (arc.kind ≡ kind_number taken) × IsWalk (HasArc paths.now) here goal (arc ∷ rest)) }
+    ensures some { IfSome result (LeadsOn paths.now here goal) }
 {
-    match paths.next(here, goal) {
-        Hop::Fall => Some(false),
-        Hop::Taken => Some(true),
-        Hop::Here | Hop::NoWay => None,
-    }
+    let arc = paths.first(here, goal)?;
+    Some(Onward {
+        taken: arc.kind == 1,
+        place: arc.to,
+    })
 }
 
 /// Whether moves without a record lead from one place to another.
@@ -73,6 +87,20 @@ pub fn leads(paths: &Paths, here: u32, goal: u32) -> bool
     }
 }
 
+/// Where a way leads from the word at an address, which has that way.
+#[inline(always)]
+fn led_to(taken: bool, instr: &Instr, address: u32) -> u32
+    requires { taken ≡ true → IsSome (target_of instr.now address) }
+    ensures taken { taken ≡ true → target_of instr.now address ≡ Some result }
+    ensures falls { taken ≡ false → result ≡ wrap (address + 4) }
+{
+    if taken {
+        target(instr, address).unwrap()
+    } else {
+        address.wrapping_add(4)
+    }
+}
+
 /// Goes on from the word at a spot by a way that needs no record, over the edge of that way. It answers the bytes that the word reads
 /// or writes.
 #[inline(always)]
@@ -80,23 +108,25 @@ pub fn pass(
     schema: &Schema,
     paths: &Paths,
     instrs: &[Instr],
-    taken: bool,
+    onward: Onward,
     spot: &mut Spot,
     registers: &mut [u32; 32],
 ) -> Option<Item>
+    requires valid { IsSchema schema.now }
     requires spot { IsSpot schema.now spot.old }
     requires ways { AreWays (quiet_arcs schema.now) (length schema.now.words) paths.now }
     requires decoded { AreDecoded schema.now.words instrs.now }
-    requires arc { IsSome (way_from paths.now (kind_number taken) spot.old.place) }
-    ensures moves { PassesOver schema.now taken spot.old spot.new registers.old registers.new result }
-    ensures arc { way_from paths.now (kind_number taken) spot.old.place ≡ Some spot.new.place }
+    requires arc { way_from paths.now (kind_number onward.taken) spot.old.place ≡ Some onward.place }
+    ensures moves { PassesOver schema.now onward.taken spot.old spot.new registers.old registers.new result }
+    ensures place { spot.new.place ≡ onward.place }
 {
-    let met = met_at(schema, *spot);
-    let instr = instr_at(schema, instrs, *spot, met);
-    let access = carry_out(spot.address, met, &instr, registers);
-    let place = paths.way(spot.place, kind_number(taken)).unwrap();
-    let address = met.way_by(taken, &instr, spot.address).unwrap();
-    *spot = Spot { address, place };
+    let address = spot.address;
+    let instr = instr_at(schema, instrs, *spot);
+    let access = carry_out(&instr, address, registers);
+    *spot = Spot {
+        address: led_to(onward.taken, &instr, address),
+        place: onward.place,
+    };
     access
 }
 
@@ -116,7 +146,7 @@ pub fn give<K: Taker>(items: &mut K, address: u32, access: Option<Item>) -> Resu
 }
 
 /// The registers as they are before the word at the goal, where the walk goes there without a record.
-#[inline(never)]
+#[inline(always)]
 pub fn scouted(
     schema: &Schema,
     paths: &Paths,
@@ -137,10 +167,10 @@ pub fn scouted(
     let mut registers = *registers;
     // A way has fewer arcs than there are code words.
     for _ in 0..schema.words.as_slice().len() {
-        let Some(taken) = way_towards(paths, spot.place, goal.place) else {
+        let Some(onward) = way_towards(paths, spot.place, goal.place) else {
             break;
         };
-        pass(schema, paths, instrs, taken, &mut spot, &mut registers);
+        pass(schema, paths, instrs, onward, &mut spot, &mut registers);
     }
     registers
 }
@@ -171,11 +201,11 @@ pub fn go<K: Taker>(
     let mut spot = from;
     // A way has fewer arcs than there are code words.
     for _ in 0..schema.words.as_slice().len() {
-        let Some(taken) = way_towards(paths, spot.place, goal.place) else {
+        let Some(onward) = way_towards(paths, spot.place, goal.place) else {
             break;
         };
         let address = spot.address;
-        let access = pass(schema, paths, instrs, taken, &mut spot, registers);
+        let access = pass(schema, paths, instrs, onward, &mut spot, registers);
         give(items, address, access)?;
     }
     Ok(())

@@ -1,5 +1,5 @@
 //! The registers of a walk.
-ghost use Rattle.std.specs.Prelude.{◌≡◌, ◌<◌, ◌≤◌, length};
+ghost use Rattle.std.specs.Prelude.{◌≡◌, ◌<◌, length};
 ghost use Rattle.ae_nums.specs.Registers.{registers_of};
 ghost use Rattle.rv_machine.specs.Start.{first_registers};
 ghost use Rattle.rv_machine.specs.State.{register_of, with_register};

@@ -1,5 +1,5 @@
 //! The moves by which a word gives a record.
-ghost use Rattle.std.specs.Prelude.{◌≡◌, ◌%◌, ◌==◌, ◌&&◌, ℕ, List, Bool, true, false, Some, IfOk, OnErr, length};
+ghost use Rattle.std.specs.Prelude.{◌≡◌, ◌%◌, ◌==◌, ◌&&◌, ℕ, List, true, false, Some, IfOk, OnErr, length};
 ghost use Rattle.ae_nums.specs.Registers.{registers_of};
 ghost use Rattle.ae_ports.specs.Fault.{HasCause};
 ghost use Rattle.ev_format.specs.Shapes.{value_count};
@@ -7,6 +7,7 @@ ghost use Rattle.ev_format.specs.Spelling.{address_in};
 ghost use Rattle.ev_format.specs.declared.record.Record.TheVariants as records;
 ghost use Rattle.schema_form.specs.LookUps.{schema_shape};
 ghost use Rattle.schema_form.specs.SchemaParts.{SchemaParts};
+ghost use Rattle.schema_form.specs.Valid.{IsSchema};
 ghost use Rattle.regen_walk.specs.Decoded.{AreDecoded, IsDecoded};
 ghost use Rattle.regen_walk.specs.Inner.Met.{IsMet, IsSpot};
 ghost use Rattle.regen_walk.specs.Inner.Telling.{edge_record, may_stop, may_tell, HasTold, HasBrokenOff};
@@ -139,7 +140,7 @@ fn tell_edge<K: Taker>(
     ensures cause { HasCause (K.faults items.old) (K.faults items.new) result }
     ensures rest { K.same_rest items.old items.new }
 {
-    let access = carry_out(spot.address, met, instr, registers);
+    let access = carry_out(instr, spot.address, registers);
     let next = met.way_by(taken, instr, spot.address).unwrap();
     give(items, spot.address, access)?;
     Ok(placed_at(schema, next))
@@ -239,6 +240,7 @@ pub fn tell<K: Taker>(
     registers: &mut [u32; 32],
     items: &mut K,
 ) -> Result<Stand, Failed>
+    requires valid { IsSchema schema.now }
     requires decoded { AreDecoded schema.now.words instrs.now }
     requires spot { IsSpot schema.now spot }
     requires address { spot.address ≡ address_in rec.now }
@@ -250,7 +252,7 @@ pub fn tell<K: Taker>(
     ensures rest { K.same_rest items.old items.new }
 {
     let met = met_at(schema, spot);
-    let instr = &instr_at(schema, instrs, spot, met);
+    let instr = &instr_at(schema, instrs, spot);
     match rec {
         Record::Fall(_) => tell_edge(schema, spot, met, instr, false, registers, items),
         Record::Taken(_) => tell_edge(schema, spot, met, instr, true, registers, items),

@@ -1,16 +1,21 @@
 //! A walk over a schema, record by record.
 ghost use Rattle.std.specs.Prelude.{◌≡◌, ℕ, ◌≤◌, [], List, Some, None, IfOk, IfErr, IfNone, IfSome, OnErr, OnOk, Err, length};
 ghost use Rattle.ae_ports.specs.Fault.{HasCause};
-ghost use Rattle.ev_format.specs.Spelling.{kind_in};
+ghost use Rattle.ae_nums.specs.declared.item.Item.{Item};
+ghost use Rattle.ev_format.specs.Spelling.{address_in, kind_in};
 ghost use Rattle.rv_machine.specs.Start.{first_registers};
 ghost use Rattle.schema_form.specs.Valid.{IsSchema};
-ghost use Rattle.regen_path.specs.Arcs.{AreWays};
+ghost use Rattle.regen_path.specs.declared.arcs.Arc.{Arc};
+ghost use Rattle.regen_path.specs.Arcs.{AreWays, HasArc};
+ghost use Rattle.regen_path.specs.Walks.{IsWalk};
 ghost use Rattle.regen_walk.specs.declared.position.Position.TheVariants.{Before, After, Stopped};
 ghost use Rattle.regen_walk.specs.declared.turn.WalkFault.TheVariants.{Astray};
 ghost use Rattle.regen_walk.specs.Decoded.{AreDecoded};
 ghost use Rattle.regen_walk.specs.FreeArcs.{quiet_arcs};
 ghost use Rattle.regen_walk.specs.Inner.Goal.{IsGoal};
-ghost use Rattle.regen_walk.specs.Inner.Met.{IsSpot};
+ghost use Rattle.regen_walk.specs.Inner.Going.{GoesAlong};
+ghost use Rattle.regen_walk.specs.Inner.Met.{IsMet, IsSpot};
+ghost use Rattle.regen_walk.specs.Inner.Telling.{may_tell};
 ghost use Rattle.regen_walk.specs.Labels.{Tell};
 ghost use Rattle.regen_walk.specs.Moves.{Moved, move_outside};
 ghost use Rattle.regen_walk.specs.Promises.{WalkAdvances, AdvancesFrom, IsBrokenOff, IsMoved, Tells, WalkRises, turn_by};
@@ -20,7 +25,7 @@ use crate::arcs::quiet_paths;
 use crate::crossing::{Crossing, edge_behind, ends_outside};
 use crate::decoded::decoded;
 use crate::going::{go, leads, scouted};
-use crate::met::{Spot, met_at};
+use crate::met::{Met, Spot, met_at};
 use crate::position::Position;
 use crate::registers::first_registers;
 use crate::telling::{Stand, asks_registers, may_tell, placed_at, tell};
@@ -71,6 +76,33 @@ fn turn_by(rec: &Record) -> Turn
     }
 }
 
+/// Whether the word at the goal may give the record, with the registers that a walk there without a record leaves.
+#[inline(never)]
+fn may_tell_there(
+    schema: &Schema,
+    paths: &Paths,
+    instrs: &[Instr],
+    from: Spot,
+    goal: Spot,
+    met: Met,
+    registers: &[u32; 32],
+    rec: &Record,
+) -> bool
+    requires valid { IsSchema schema.now }
+    requires ways { AreWays (quiet_arcs schema.now) (length schema.now.words) paths.now }
+    requires decoded { AreDecoded schema.now.words instrs.now }
+    requires from { IsSpot schema.now from }
+    requires goal { IsSpot schema.now goal }
+    requires leads { (walk : List Arc) × IsWalk (HasArc paths.now) from.place goal.place walk }
+    requires met { IsMet schema.now goal.address met }
+    requires address { goal.address ≡ address_in rec.now }
+    ensures { (walk : List Arc) → IsWalk (HasArc paths.now) from.place goal.place walk → (there : List ℕ) (items : List Item)
+        → GoesAlong schema.now walk from.address goal.address registers.now there items → result ≡ may_tell schema.now goal.address there rec.now }
+{
+    let there = scouted(schema, paths, instrs, from, goal, registers);
+    may_tell(schema, goal.address, met, &there, rec)
+}
+
 /// The spot of a record's word, where moves without a record lead there from a spot and the word may then give the record.
 #[inline(always)]
 fn goal_of(
@@ -96,8 +128,7 @@ fn goal_of(
     let goal = Spot { address, place };
     let met = met_at(schema, goal);
     let may = if asks_registers(met, rec) {
-        let there = scouted(schema, paths, instrs, from, goal, registers);
-        may_tell(schema, address, met, &there, rec)
+        may_tell_there(schema, paths, instrs, from, goal, met, registers, rec)
     } else {
         may_tell(schema, address, met, registers, rec)
     };

@@ -25,6 +25,10 @@ pub record IsMet (parts : SchemaParts) (at : ℕ) (met : Met) : Type 0 where
   pub named : class_in met.word.flags ≡ Some met.class
   -- a kept Plain word is one as it stands
   pub plain : met.class ≡ Plain → is_kept met.word ≡ true → class_of (meaning_of met.word.raw) ≡ Plain
+  -- one that isn't kept is left out
+  pub left_out : met.class ≡ Plain → is_kept met.word ≡ false → met.word.raw ≡ 0
+  -- a word of another class is one as it stands
+  pub other : (met.class ≡ Plain → ⊥) → class_of (meaning_of met.word.raw) ≡ met.class
   -- a word of the class Call is one
   pub call : met.class ≡ Call → meaning_of met.word.raw ≡ Ecall
   -- an edge without a record leads to a code word, and one with a record is there

@@ -1,4 +1,4 @@
-use Rattle.std.proofs.Common.{◌≤◌, ◌++◌, ◌+◌, ℕ, List, [], length, refl, take, ap, subst, ◌∙◌, arith}
+use Rattle.std.proofs.Common.{◌≤◌, ◌++◌, ◌+◌, ℕ, List, [], length, Some, refl, sym, take, ap, subst, ◌∙◌, arith}
 use Rattle.ae_nums.specs.declared.item.Item.{Item}
 use Rattle.ae_ports.proofs.LawsOfFaults.{OnErr-always}
 use Rattle.rv_machine.specs.Outcomes.{TookFront}
@@ -37,7 +37,7 @@ loop-preserved g c =
     let led = c.in-Some.ensures.some in (
       c.loop.invariant.0 ++ items_at c.loop.spot.address c.pass-access.result,
       goes_further c.args.schema.now (subst IsSchema c.schema.view_is c.schema.invariant.parts) c.args.paths.now c.requires.ways c.args.from c.args.goal c.args.registers.now c.loop.spot c.pass-access.new.spot c.loop.registers
-          c.pass-access.new.registers c.loop.invariant.0 c.loop.counter c.in-Some.taken c.pass-access.result c.loop.invariant.1 led.0 led.1 led.2 led.3 c.pass-access.ensures.arc c.pass-access.ensures.moves,
+          c.pass-access.new.registers c.loop.invariant.0 c.loop.counter c.in-Some.onward.taken c.pass-access.result c.loop.invariant.1 led.arc led.rest led.kind led.walks (led.way ∙ ap (λ (place : ℕ). Some place) (sym c.pass-access.ensures.place)) c.pass-access.ensures.moves,
       g.met.K.Taker.took_both c.args.items.now c.loop.items c.give.new.items c.loop.invariant.0 (items_at c.loop.spot.address c.pass-access.result) c.loop.invariant.2 c.in_ok-give.ensures.all,
       c.in_ok-give.ensures.cause.same ∙ c.loop.invariant.3,
       g.met.K.Taker.rest_joins c.args.items.now c.loop.items c.give.new.items c.loop.invariant.4 c.in_ok-give.ensures.rest,
@@ -67,7 +67,7 @@ returns-in_err-give-clause-front g c =
     let front = c.in_err-give.ensures.front in
     let on =
     goes_further c.args.schema.now (subst IsSchema c.schema.view_is c.schema.invariant.parts) c.args.paths.now c.requires.ways c.args.from c.args.goal c.args.registers.now c.loop.spot c.pass-access.new.spot c.loop.registers
-    c.pass-access.new.registers c.loop.invariant.0 c.loop.counter c.in-Some.taken c.pass-access.result c.loop.invariant.1 led.0 led.1 led.2 led.3 c.pass-access.ensures.arc c.pass-access.ensures.moves
+    c.pass-access.new.registers c.loop.invariant.0 c.loop.counter c.in-Some.onward.taken c.pass-access.result c.loop.invariant.1 led.arc led.rest led.kind led.walks (led.way ∙ ap (λ (place : ℕ). Some place) (sym c.pass-access.ensures.place)) c.pass-access.ensures.moves
     in
     let broken
     : (walk : List Arc) → IsWalk (HasArc c.args.paths.now) c.args.from.place c.args.goal.place walk → (given : List Item) × (there : List ℕ)

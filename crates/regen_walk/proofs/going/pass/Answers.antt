@@ -1,21 +1,29 @@
-use Rattle.std.proofs.Common.{◌≡◌, ℕ, Some, sym, ap, ◌∙◌}
+use Rattle.std.proofs.Common.{sym, ap, ◌∙◌}
 use Rattle.std.specs.Prelude.{is_some}
-use Rattle.regen_path.specs.Arcs.{way_from}
-use Rattle.regen_walk.proofs.Passing.{quiet_step, passes}
+use Rattle.rv_code.specs.declared.instr.Instr.{Instr}
+use Rattle.rv_code.specs.Parts.{target_of}
+use Rattle.regen_walk.proofs.Carried.{carried}
+use Rattle.regen_walk.proofs.Passing.{led_there, passes, quiet_step, way_there}
+use Rattle.regen_walk.proofs.WordsMet.{met_of}
 use Rattle.regen_walk.proofs.going.pass.Goals as goal
 
-pub unwrap-address-requires : goal.unwrap-address-requires
-unwrap-address-requires c =
-    let met = c.met_at-met.ensures in
-    let way = ap (λ (kind : ℕ). way_from c.args.paths.now kind c.args.spot.now.place) (sym c.kind_number.ensures) ∙ sym c.way.ensures ∙ c.unwrap-place.ensures in
-    let step = quiet_step c.args.schema.now met.valid c.args.spot.now c.requires.spot c.met_at-met.result met c.args.paths.now c.args.taken c.unwrap-place.result c.requires.ways way in
-    ap is_some (c.way_by.ensures ∙ step.way)
+pub led_to-requires : goal.led_to-requires
+led_to-requires c = λ taken.
+    let parts = c.args.schema.now in
+    let m = met_of parts c.requires.valid c.args.spot.now c.requires.spot in
+    let means = (c.instr_at-instr.ensures.decoded m.0 m.1).meaning in
+    let step = quiet_step parts c.requires.valid c.args.spot.now c.requires.spot m.0 m.1 c.args.paths.now c.args.onward.taken c.args.onward.place c.requires.ways c.requires.arc in
+    ap is_some (ap (λ (instr : Instr). target_of instr c.args.spot.now.address) means ∙ way_there c.args.onward.taken m.0.class m.0.word.raw c.args.spot.now.address step.target step.way taken)
 
 pub returns-clause-moves : goal.returns-clause-moves
 returns-clause-moves c =
-    let met = c.met_at-met.ensures in
-    let way = ap (λ (kind : ℕ). way_from c.args.paths.now kind c.args.spot.now.place) (sym c.kind_number.ensures) ∙ sym c.way.ensures ∙ c.unwrap-place.ensures in
-    let step = quiet_step c.args.schema.now met.valid c.args.spot.now c.requires.spot c.met_at-met.result met c.args.paths.now c.args.taken c.unwrap-place.result c.requires.ways way in
-    let target : step.target ≡ c.unwrap-address.result = (let both : Some step.target ≡ Some c.unwrap-address.result = sym step.way ∙ sym c.way_by.ensures ∙ c.unwrap-address.ensures in cc) in
-    passes c.args.schema.now met.valid c.args.spot.now c.requires.spot c.met_at-met.result met c.args.taken c.unwrap-place.result c.unwrap-address.result step c.args.registers.now c.carry_out-access.new.registers
-    c.carry_out-access.result target c.carry_out-access.ensures
+    let parts = c.args.schema.now in
+    let at = c.args.spot.now.address in
+    let m = met_of parts c.requires.valid c.args.spot.now c.requires.spot in
+    let means = (c.instr_at-instr.ensures.decoded m.0 m.1).meaning in
+    let step = quiet_step parts c.requires.valid c.args.spot.now c.requires.spot m.0 m.1 c.args.paths.now c.args.onward.taken c.args.onward.place c.requires.ways c.requires.arc in
+    let target = led_there c.args.onward.taken m.0.class m.0.word.raw at step.target c.led_to.result step.way
+    (λ taken. ap (λ (instr : Instr). target_of instr at) (sym means) ∙ c.led_to.ensures.taken taken) c.led_to.ensures.falls
+    in
+    passes parts c.requires.valid c.args.spot.now c.requires.spot m.0 m.1 c.args.onward.taken c.args.onward.place c.led_to.result step c.args.registers.now c.carry_out-access.new.registers c.carry_out-access.result target
+    (carried parts at m.0 m.1 c.instr_at-instr.result means c.args.registers.now c.carry_out-access.new.registers c.carry_out-access.result c.carry_out-access.ensures.access c.carry_out-access.ensures.registers)

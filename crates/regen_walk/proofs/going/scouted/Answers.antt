@@ -1,4 +1,4 @@
-use Rattle.std.proofs.Common.{◌≤◌, ◌++◌, [], length, ap, subst, ◌∙◌, arith}
+use Rattle.std.proofs.Common.{◌≤◌, ◌++◌, ℕ, [], length, Some, sym, ap, subst, ◌∙◌, arith}
 use Rattle.schema_form.specs.SchemaParts.{SchemaParts}
 use Rattle.schema_form.specs.Valid.{IsSchema}
 use Rattle.regen_walk.specs.Inner.Going.{items_at}
@@ -25,7 +25,7 @@ loop-preserved c =
     let led = c.in-Some.ensures.some in (
       c.loop.invariant.0 ++ items_at c.loop.spot.address c.pass.result,
       goes_further c.args.schema.now (subst IsSchema c.schema.view_is c.schema.invariant.parts) c.args.paths.now c.requires.ways c.args.from c.args.goal c.args.registers.now c.loop.spot c.pass.new.spot c.loop.registers c.pass.new.registers
-          c.loop.invariant.0 c.loop.counter c.in-Some.taken c.pass.result c.loop.invariant.1 led.0 led.1 led.2 led.3 c.pass.ensures.arc c.pass.ensures.moves,
+          c.loop.invariant.0 c.loop.counter c.in-Some.onward.taken c.pass.result c.loop.invariant.1 led.arc led.rest led.kind led.walks (led.way ∙ ap (λ (place : ℕ). Some place) (sym c.pass.ensures.place)) c.pass.ensures.moves,
     )
 
 pub returns-after-loop : goal.returns-after-loop

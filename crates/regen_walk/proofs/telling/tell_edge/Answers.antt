@@ -4,6 +4,7 @@ use Rattle.ae_ports.proofs.LawsOfFaults.{OnErr-always}
 use Rattle.regen_walk.specs.Inner.Going.{items_at}
 use Rattle.regen_walk.specs.Inner.Telling.{edge_record, HasBrokenOff}
 use Rattle.regen_walk.specs.Moves.{placed_at}
+use Rattle.regen_walk.proofs.Carried.{carried}
 use Rattle.regen_walk.proofs.Tellings.{edge_quiet, edge_marked, edge_made}
 use Rattle.regen_walk.proofs.telling.tell_edge.Goals as goal
 
@@ -23,7 +24,7 @@ returns-in_err-give-clause-front g c =
     record {
       moved = record { items = items_at c.args.spot.address access; position = position; registers = now };
       made =
-          edge_made c.args.schema.now c.args.spot.address c.args.met c.requires.met c.args.taken c.args.registers.now now access quiet marked c.carry_out-access.ensures c.unwrap-next.result position
+          edge_made c.args.schema.now c.args.spot.address c.args.met c.requires.met c.args.taken c.args.registers.now now access quiet marked (carried c.args.schema.now c.args.spot.address c.args.met c.requires.met c.args.instr.now c.requires.decoded.meaning c.args.registers.now now access c.carry_out-access.ensures.access c.carry_out-access.ensures.registers) c.unwrap-next.result position
           (sym c.way_by.ensures ∙ c.unwrap-next.ensures) refl;
       front = c.in_err-give.ensures.front;
     }
@@ -39,7 +40,7 @@ returns-clause-all g c =
     record {
       moved = record { items = items_at c.args.spot.address access; position = c.placed_at.result.position; registers = now };
       made =
-          edge_made c.args.schema.now c.args.spot.address c.args.met c.requires.met c.args.taken c.args.registers.now now access quiet marked c.carry_out-access.ensures c.unwrap-next.result
+          edge_made c.args.schema.now c.args.spot.address c.args.met c.requires.met c.args.taken c.args.registers.now now access quiet marked (carried c.args.schema.now c.args.spot.address c.args.met c.requires.met c.args.instr.now c.requires.decoded.meaning c.args.registers.now now access c.carry_out-access.ensures.access c.carry_out-access.ensures.registers) c.unwrap-next.result
           c.placed_at.result.position (sym c.way_by.ensures ∙ c.unwrap-next.ensures) c.placed_at.ensures.position;
       given = c.in_ok-give.ensures.all;
       position = refl;

@@ -1,4 +1,4 @@
-use Rattle.std.proofs.Common.{◌≡◌, ℕ, true, false, List, Some, None, ap, sym, subst, ◌∙◌, arith}
+use Rattle.std.proofs.Common.{◌≡◌, ℕ, true, false, Some, None, ap, sym, subst, ◌∙◌, arith}
 use Rattle.rv_code.specs.Places.{place_of}
 use Rattle.regen_path.specs.Arcs.{HasArc}
 use Rattle.regen_path.specs.Walks.{IsWalk}
@@ -59,18 +59,10 @@ returns-else-may-clause-none c = λ moved tells.
     in
     elim c.if-asks_registers.branch [
       | then-asks_registers w ↦
-          let s = w.scouted-there.ensures r.walk walks in
-          let first : Moved = record { items = r.items; position = Before c.address-address.result; registers = r.there } in
-          let second : Moved = record { items = s.0; position = Before c.address-address.result; registers = w.scouted-there.result } in
-          let joined : Some first ≡ Some second = sym goes ∙ s.1 in
-          let same : first ≡ second = cc in
-          let there : r.there ≡ w.scouted-there.result = ap (λ (m : Moved). m.registers) same in
-          let clash : true ≡ false =
-          sym may ∙ ap (λ (registers : List ℕ). may_tell c.args.schema.now c.address-address.result registers c.args.rec.now) there ∙ sym w.may_tell-may.ensures ∙ sym w.may-is ∙ c.if-may.false
-          in
+          let clash : true ≡ false = sym may ∙ sym (w.may_tell_there-may.ensures r.walk walks r.there r.items goes) ∙ sym w.may-is ∙ c.if-may.false in
           absurd (cc clash)
       | else-asks_registers w ↦
           let alone = c.asks_registers.ensures w.if-asks_registers.false c.args.schema.now c.address-address.result c.met_at-met.ensures c.address-address.ensures r.there c.args.registers.now in
-          let clash : true ≡ false = sym may ∙ alone ∙ sym w.may_tell-may-else-asks_registers.ensures ∙ sym w.may-is ∙ c.if-may.false in
+          let clash : true ≡ false = sym may ∙ alone ∙ sym w.may_tell-may.ensures ∙ sym w.may-is ∙ c.if-may.false in
           absurd (cc clash)
     ]
