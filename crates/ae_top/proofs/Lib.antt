@@ -8,7 +8,6 @@ pub mod EventsBehind
 pub mod KeptEvents
 pub mod KeptRegenerated
 pub mod KeptSchema
-pub mod KeptTop
 pub mod Named
 pub mod Printed
 pub mod Ran

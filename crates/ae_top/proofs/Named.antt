@@ -1,6 +1,6 @@
 -- Where the file words of a command stand among all words.
-use Rattle.std.proofs.Common.{◌≡◌, subst, ℕ, ◌<◌, Bool, true, false, List, [], ◌∷◌, length, arith, Option, None, Some}
-use Rattle.std.specs.Prelude.{⊤, MatchOption, if◌then◌else◌, codes, ◌&&◌}
+use Rattle.std.proofs.Common.{ℕ, ◌<◌, Bool, true, false, List, [], ◌∷◌, length, arith, Option, None, Some}
+use Rattle.std.specs.Prelude.{IfSome, if◌then◌else◌, codes, ◌&&◌}
 use Rattle.std.specs.Option.{option_map, option_and_then}
 use Rattle.std.specs.Str.{bytes_eq}
 use Rattle.ae_words.specs.declared.command.Command.{Command}
@@ -11,22 +11,12 @@ use Rattle.ae_words.specs.Numbers.{short_positive_number}
 use Rattle.ae_words.specs.Files.{is_file_word, are_file_words}
 use Rattle.ae_words.specs.Options.{no_options, options_given}
 use Rattle.ae_words.specs.Command.{run_with, run_command, plain_command, rewrite_command, regenerate_command, profile_command, print_kind_command, print_command, sample_command, help_command}
-use Rattle.ae_top.specs.declared.task.PrintKind.{PrintKind}
-use Rattle.ae_top.specs.declared.task.Task.{Task}
+use Rattle.ae_top.specs.Inner.FileWords.{NamesAmong}
 use Rattle.ae_top.specs.Task.{task_of, task_in}
 
--- the file words that a task names are among so many words
-abbrev pub Within : ℕ → Task → Type 0
-Within count (Task.Run prog fuel) = prog < count
-Within count (Task.Plain prog trace fuel) = (prog < count) × (trace < count)
-Within count (Task.Print kind file) = file < count
-Within count (Task.PrintSchema file) = file < count
-Within count (Task.PrintEvents schema events) = (schema < count) × (events < count)
-Within count (Task.Regenerate schema events trace) = (schema < count) × (events < count) × (trace < count)
-
--- the same of the task of a command
+-- the file words of a command's task are among so many words
 abbrev Names : ℕ → Option Command → Type 0
-Names count command = MatchOption (option_and_then task_of command) ⊤ (Within count)
+Names count command = IfSome (option_and_then task_of command) (NamesAmong count)
 
 either : (count : ℕ) (test : Bool) (one other : Option Command) → Names count one → Names count other → Names count (if test then one else other)
 either count true one other left right = left
@@ -123,7 +113,7 @@ help_of_named count [] = tt
 help_of_named count (word ∷ words) = tt
 
 -- each file word that the task of these words names is one of them
-pub named : (words : List (List ℕ)) → MatchOption (task_in words) ⊤ (Within (length words))
+pub named : (words : List (List ℕ)) → IfSome (task_in words) (NamesAmong (length words))
 named [] = tt
 named (name ∷ words) =
     let count = length (name ∷ words) in
@@ -136,24 +126,3 @@ named (name ∷ words) =
     (either count (bytes_eq name (codes "print")) _ _ (print_of_named count words fewer)
     (either count (bytes_eq name (codes "sample")) _ _ (sample_of_named count words)
     (either count (bytes_eq name (codes "help")) _ _ (help_of_named count words) tt)))))))
-
-pub run_named_word : (words : List (List ℕ)) (prog fuel : ℕ) → task_in words ≡ Some (Task.Run prog fuel) → prog < length words
-run_named_word words prog fuel is = subst (λ (task : Option Task). MatchOption task ⊤ (Within (length words))) is (named words)
-
-pub plain_named_words : (words : List (List ℕ)) (prog trace fuel : ℕ) → task_in words ≡ Some (Task.Plain prog trace fuel)
-    → (prog < length words) × (trace < length words)
-plain_named_words words prog trace fuel is = subst (λ (task : Option Task). MatchOption task ⊤ (Within (length words))) is (named words)
-
-pub print_named_word : (words : List (List ℕ)) (kind : PrintKind) (file : ℕ) → task_in words ≡ Some (Task.Print kind file) → file < length words
-print_named_word words kind file is = subst (λ (task : Option Task). MatchOption task ⊤ (Within (length words))) is (named words)
-
-pub schema_named_word : (words : List (List ℕ)) (file : ℕ) → task_in words ≡ Some (Task.PrintSchema file) → file < length words
-schema_named_word words file is = subst (λ (task : Option Task). MatchOption task ⊤ (Within (length words))) is (named words)
-
-pub events_named_words : (words : List (List ℕ)) (schema events : ℕ) → task_in words ≡ Some (Task.PrintEvents schema events)
-    → (schema < length words) × (events < length words)
-events_named_words words schema events is = subst (λ (task : Option Task). MatchOption task ⊤ (Within (length words))) is (named words)
-
-pub regenerate_named_words : (words : List (List ℕ)) (schema events trace : ℕ) → task_in words ≡ Some (Task.Regenerate schema events trace)
-    → (schema < length words) × (events < length words) × (trace < length words)
-regenerate_named_words words schema events trace is = subst (λ (task : Option Task). MatchOption task ⊤ (Within (length words))) is (named words)

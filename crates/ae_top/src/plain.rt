@@ -1,5 +1,5 @@
 //! The command `plain PROG TRACE`.
-ghost use Rattle.std.specs.Prelude.{◌≡◌, None, Some, ℕ, List, IsErrOf};
+ghost use Rattle.std.specs.Prelude.{◌≡◌, ◌<◌, None, Some, ℕ, List, [], length, slice_index_or, IsErrOf};
 ghost use Rattle.ae_nums.specs.Trace.{trace_text};
 ghost use Rattle.ae_ports.specs.Files.{IsEmptyFile, SameOthers};
 ghost use Rattle.rv_machine.specs.Outcomes.{items_in_run};
@@ -13,6 +13,7 @@ use crate::Status;
 use crate::finishing::{status_of, tell_end};
 use crate::no_file::status_without;
 use crate::program::{Wanted, load_program};
+use crate::task::name_at;
 use ae_nums::LineWriter;
 use ae_ports::{Failed, Sink, Source, Store, StoreSink, Word};
 use rv_machine::{Machine, MachineFault, Outcome};
@@ -83,36 +84,40 @@ fn trace_machine<S: Store, I: Source, O: Sink, P: Sink>(
     trace_to(machine, fuel, input, out, err, &mut sink)
 }
 
-/// Runs the executable that the store has under this name, which is the word at the place `prog`, for at most `fuel` steps,
-/// and writes the lines of its items to the file `trace`. The outputs get what they get of `run`.
+/// Runs the executable that the store has under the name at the place `prog` among these words, for at most `fuel` steps,
+/// and writes the lines of its items to the file whose name is at the place `trace`. The outputs get what they get of `run`.
 ///
 /// The lines go to the store in pieces of some thousand bytes. After a device's fault the store isn't called any more, and
 /// TRACE has the front of them that was handed on before. A file that isn't accepted or has been rewritten is `Refused`.
 /// Memory may be wanting before TRACE is made.
 pub fn plain<S: Store, I: Source, O: Sink, P: Sink>(
     alloc: Global,
-    name: &Word,
+    words: &[Word],
     prog: u32,
-    trace: &Word,
+    trace: u32,
     fuel: u64,
     store: &mut S,
     input: &mut I,
     out: &mut O,
     err: &mut P,
 ) -> Status
+    requires prog { prog < length words.now }
+    requires trace { trace < length words.now }
     ensures keeps { let before = world (port (S.told store.old) (S.faults store.old))
         (port (I.told input.old) (I.faults input.old)) (port (O.told out.old) (O.faults out.old))
         (port (P.told err.old) (P.faults err.old)) in
         let now = world (port (S.told store.new) (S.faults store.new))
         (port (I.told input.new) (I.faults input.new)) (port (O.told out.new) (O.faults out.new))
         (port (P.told err.new) (P.faults err.new)) in
-        Carries (KeepsPlain prog name.now trace.now fuel result before now) result before now }
+        Carries (KeepsPlain prog (slice_index_or words.now prog []) (slice_index_or words.now trace []) fuel result before now)
+        result before now }
     ensures store { S.same_rest store.old store.new }
     ensures input { I.same_rest input.old input.new }
     ensures out { O.same_rest out.old out.new }
     ensures err { P.same_rest err.old err.new }
 {
-    let mut machine = match load_program(alloc, store, name, Wanted::Original) {
+    let trace = name_at(words, trace);
+    let mut machine = match load_program(alloc, store, name_at(words, prog), Wanted::Original) {
         Ok(machine) => machine,
         Err(why) => return status_without(why, prog),
     };

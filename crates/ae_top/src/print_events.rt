@@ -1,11 +1,12 @@
 //! The command `print events SCHEMA EVENTS`.
-ghost use Rattle.std.specs.Prelude.{◌≡◌, ℕ, List};
+ghost use Rattle.std.specs.Prelude.{◌≡◌, ◌<◌, ℕ, List, [], length, slice_index_or};
 ghost use Rattle.ae_top.specs.Inner.Command.{Carries};
 ghost use Rattle.ae_top.specs.PrintEvents.{KeepsPrintEvents, GetsEvents};
 ghost use Rattle.ae_top.specs.World.{Port, port, world, Blames};
 
 use crate::Status;
 use crate::event_files::{EventFiles, read_event_files, status_by, status_without_events};
+use crate::task::name_at;
 use ae_ports::{Failed, Sink, SteadySource, Store, Word};
 use std::alloc::Global;
 
@@ -23,29 +24,31 @@ fn print_read<O: Sink>(files: EventFiles, out: &mut O) -> Status
     }
 }
 
-/// Prints the event file that the store has under the name `events`, of the program whose schema it has under the name `schema`. Both names
-/// are words at these places.
+/// Prints the event file that the store has under the name at the place `events` among these words, of the program whose schema it has
+/// under the name at the place `schema`.
 pub fn print_events<S: Store, O: Sink>(
     alloc: Global,
-    schema: &Word,
-    schema_place: u32,
-    events: &Word,
-    events_place: u32,
+    words: &[Word],
+    schema: u32,
+    events: u32,
     store: &mut S,
     out: &mut O,
 ) -> Status
+    requires schema { schema < length words.now }
+    requires events { events < length words.now }
     // Whatever the other two streams are.
     ensures keeps { (input err : Port (List ℕ)) →
         let before = world (port (S.told store.old) (S.faults store.old)) input
         (port (O.told out.old) (O.faults out.old)) err in
         let now = world (port (S.told store.new) (S.faults store.new)) input
         (port (O.told out.new) (O.faults out.new)) err in
-        Carries (KeepsPrintEvents schema_place schema.now events_place events.now result before now) result before now }
+        Carries (KeepsPrintEvents schema (slice_index_or words.now schema []) events (slice_index_or words.now events [])
+        result before now) result before now }
     ensures store { S.same_rest store.old store.new }
     ensures out { O.same_rest out.old out.new }
 {
-    match read_event_files(alloc, schema, events, store) {
+    match read_event_files(alloc, name_at(words, schema), name_at(words, events), store) {
         Ok(files) => print_read(files, out),
-        Err(why) => status_without_events(why, schema_place, events_place),
+        Err(why) => status_without_events(why, schema, events),
     }
 }

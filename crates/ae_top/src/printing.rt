@@ -1,5 +1,5 @@
 //! The command `print KIND FILE`.
-ghost use Rattle.std.specs.Prelude.{◌≡◌, ◌≤◌, ℕ, List, length, Option, None, IfOk, IsErrOf};
+ghost use Rattle.std.specs.Prelude.{◌≡◌, ◌<◌, ◌≤◌, ℕ, List, [], length, slice_index_or, Option, None, IfOk, IsErrOf};
 ghost use Rattle.ae_ports.specs.Content.{Appends, AppendsFront};
 ghost use Rattle.ae_top.specs.Inner.Command.{Carries};
 ghost use Rattle.ae_top.specs.Inner.Printing.{Prints};
@@ -10,7 +10,7 @@ use crate::Status;
 use crate::from_graph::{FromGraph, print_from_graph};
 use crate::no_file::{NoFile, NotTaken, status_without};
 use crate::program::{accept_file, read_program, read_tables};
-use crate::task::PrintKind;
+use crate::task::{PrintKind, name_at};
 use ae_ports::{Failed, Sink, Store, Word};
 use elf_raw::FILE_LIMIT;
 use std::alloc::Global;
@@ -81,33 +81,34 @@ fn print_bytes<O: Sink>(
     }
 }
 
-/// Prints what is asked of the file that the store has under this name, which is the word at this place.
+/// Prints what is asked of the file that the store has under the name at the place `file` among these words.
 pub fn print<S: Store, O: Sink>(
     alloc: Global,
+    words: &[Word],
     kind: PrintKind,
-    name: &Word,
-    place: u32,
+    file: u32,
     store: &mut S,
     out: &mut O,
 ) -> Status
+    requires { file < length words.now }
     // Whatever the other two streams are.
     ensures keeps { (input err : Port (List ℕ)) →
         let before = world (port (S.told store.old) (S.faults store.old)) input
         (port (O.told out.old) (O.faults out.old)) err in
         let now = world (port (S.told store.new) (S.faults store.new)) input
         (port (O.told out.new) (O.faults out.new)) err in
-        Carries (KeepsPrint kind place name.now result before now) result before now }
+        Carries (KeepsPrint kind file (slice_index_or words.now file []) result before now) result before now }
     ensures store { S.same_rest store.old store.new }
     ensures out { O.same_rest out.old out.new }
 {
-    let bytes = match read_program(alloc, store, name) {
+    let bytes = match read_program(alloc, store, name_at(words, file)) {
         Ok(bytes) => bytes,
-        Err(why) => return status_without(why, place),
+        Err(why) => return status_without(why, file),
     };
     match print_bytes(alloc, kind, &bytes, out) {
         Ok(()) => Status::Done,
         Err(NotPrinted::OutFault) => Status::OutFault,
         Err(NotPrinted::NoMemory) => Status::Memory,
-        Err(NotPrinted::NotTaken(why)) => status_without(NoFile::NotTaken(why), place),
+        Err(NotPrinted::NotTaken(why)) => status_without(NoFile::NotTaken(why), file),
     }
 }

@@ -1,5 +1,5 @@
 //! The command `regenerate SCHEMA EVENTS TRACE`.
-ghost use Rattle.std.specs.Prelude.{◌≡◌, ℕ, List, IfOk, IfErr};
+ghost use Rattle.std.specs.Prelude.{◌≡◌, ◌<◌, ℕ, List, [], length, slice_index_or, IfOk, IfErr};
 ghost use Rattle.ae_ports.specs.Fault.{HasCause};
 ghost use Rattle.ae_ports.specs.Files.{IsEmptyFile, SameOthers};
 ghost use Rattle.ae_print.specs.SomeText.{AppendsFrontOfSome, AppendsSome};
@@ -11,6 +11,7 @@ ghost use Rattle.ae_top.specs.Regenerate.{AreForeign, IsBegunTraceOf, IsTraceOf,
 ghost use Rattle.ae_top.specs.World.{Port, port, world, Blames};
 
 use crate::event_files::{EventFiles, read_event_files, status_by, status_without_events};
+use crate::task::name_at;
 use crate::{EventsRefusal, Status};
 use ae_nums::LineWriter;
 use ae_ports::{Failed, Sink, SteadySource, Store, StoreSink, Word};
@@ -121,29 +122,32 @@ fn regenerate_read<S: Store>(
     regenerate_from(alloc, &schema, events, trace, store)
 }
 
-/// Gives back the trace of a run from the program's schema and the run's event file, which the store has under the names `schema` and
-/// `events`, and writes it to the file `trace`. The first two names are words at these places.
+/// Gives back the trace of a run from the program's schema and the run's event file, which the store has under the names at the places
+/// `schema` and `events` among these words, and writes it to the file whose name is at the place `trace`.
 ///
 /// The lines are those of the longest front of the records that a walk explains. They go to the store in pieces of some thousand
 /// bytes. TRACE isn't made where the header is another program's. Memory may be wanting before TRACE is made.
 pub fn regenerate<S: Store>(
     alloc: Global,
-    schema: &Word,
-    schema_place: u32,
-    events: &Word,
-    events_place: u32,
-    trace: &Word,
+    words: &[Word],
+    schema: u32,
+    events: u32,
+    trace: u32,
     store: &mut S,
 ) -> Status
+    requires schema { schema < length words.now }
+    requires events { events < length words.now }
+    requires trace { trace < length words.now }
     // Whatever the streams are.
     ensures keeps { (input out err : Port (List ℕ)) →
         let before = world (port (S.told store.old) (S.faults store.old)) input out err in
         let now = world (port (S.told store.new) (S.faults store.new)) input out err in
-        Carries (KeepsRegenerate schema_place schema.now events_place events.now trace.now result before now) result before now }
+        Carries (KeepsRegenerate schema (slice_index_or words.now schema []) events (slice_index_or words.now events [])
+        (slice_index_or words.now trace []) result before now) result before now }
     ensures rest { S.same_rest store.old store.new }
 {
-    match read_event_files(alloc, schema, events, store) {
-        Ok(files) => regenerate_read(alloc, files, trace, store),
-        Err(why) => status_without_events(why, schema_place, events_place),
+    match read_event_files(alloc, name_at(words, schema), name_at(words, events), store) {
+        Ok(files) => regenerate_read(alloc, files, name_at(words, trace), store),
+        Err(why) => status_without_events(why, schema, events),
     }
 }

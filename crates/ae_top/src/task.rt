@@ -1,4 +1,6 @@
-ghost use Rattle.std.specs.Prelude.{◌≡◌};
+//! What the words of a command line ask for.
+ghost use Rattle.std.specs.Prelude.{◌≡◌, ◌<◌, [], length, slice_index_or, IfSome};
+ghost use Rattle.ae_top.specs.Inner.FileWords.{NamesAmong};
 ghost use Rattle.ae_top.specs.Task.{fuel_of, task_of, task_in};
 
 use ae_ports::Word;
@@ -55,9 +57,18 @@ pub enum Task {
 
 /// What the words ask for, `None` where they spell no command that is carried out.
 pub fn read_task(words: &[Word]) -> Option<Task>
-    ensures { result ≡ task_in words.now }
+    ensures task { result ≡ task_in words.now }
+    ensures among { IfSome result (NamesAmong (length words.now)) }
 {
     task_of(read_words(words)?)
+}
+
+/// The word at this place, which names a file.
+pub fn name_at(words: &[Word], place: u32) -> &Word
+    requires { place < length words.now }
+    ensures { result.now ≡ slice_index_or words.now place [] }
+{
+    &words[place as usize]
 }
 
 /// The steps that a run may take.
@@ -65,6 +76,34 @@ fn fuel_of(given: Option<u64>) -> u64
     ensures { result ≡ fuel_of given }
 {
     given.unwrap_or(DEFAULT_FUEL)
+}
+
+/// What `run PROG` asks for.
+fn task_to_run(prog: u32, fuel: Option<u64>) -> Task
+    ensures { result ≡ Task.Run prog (fuel_of fuel) }
+{
+    Task::Run {
+        prog,
+        fuel: fuel_of(fuel),
+    }
+}
+
+/// What `plain PROG TRACE` asks for.
+fn task_to_trace(prog: u32, trace: u32, fuel: Option<u64>) -> Task
+    ensures { result ≡ Task.Plain prog trace (fuel_of fuel) }
+{
+    Task::Plain {
+        prog,
+        trace,
+        fuel: fuel_of(fuel),
+    }
+}
+
+/// What `print KIND FILE` asks for.
+fn task_to_print(kind: PrintKind, file: u32) -> Task
+    ensures { result ≡ Task.Print kind file }
+{
+    Task::Print { kind, file }
 }
 
 /// What a command asks for, `None` where it isn't carried out.
@@ -77,35 +116,13 @@ fn task_of(command: Command) -> Option<Task>
             events: None,
             fuel,
             dump: None,
-        } => Some(Task::Run {
-            prog,
-            fuel: fuel_of(fuel),
-        }),
-        Command::Plain { prog, trace, fuel } => Some(Task::Plain {
-            prog,
-            trace,
-            fuel: fuel_of(fuel),
-        }),
-        Command::PrintElf { file } => Some(Task::Print {
-            kind: PrintKind::Elf,
-            file,
-        }),
-        Command::PrintCode { file } => Some(Task::Print {
-            kind: PrintKind::Code,
-            file,
-        }),
-        Command::PrintGraph { file } => Some(Task::Print {
-            kind: PrintKind::Graph,
-            file,
-        }),
-        Command::PrintNeeds { file } => Some(Task::Print {
-            kind: PrintKind::Needs,
-            file,
-        }),
-        Command::PrintSlice { file } => Some(Task::Print {
-            kind: PrintKind::Slice,
-            file,
-        }),
+        } => Some(task_to_run(prog, fuel)),
+        Command::Plain { prog, trace, fuel } => Some(task_to_trace(prog, trace, fuel)),
+        Command::PrintElf { file } => Some(task_to_print(PrintKind::Elf, file)),
+        Command::PrintCode { file } => Some(task_to_print(PrintKind::Code, file)),
+        Command::PrintGraph { file } => Some(task_to_print(PrintKind::Graph, file)),
+        Command::PrintNeeds { file } => Some(task_to_print(PrintKind::Needs, file)),
+        Command::PrintSlice { file } => Some(task_to_print(PrintKind::Slice, file)),
         Command::PrintSchema { file } => Some(Task::PrintSchema { file }),
         Command::PrintEvents { schema, events } => Some(Task::PrintEvents { schema, events }),
         Command::Regenerate {

@@ -1,5 +1,8 @@
 //! The top call.
-ghost use Rattle.ae_top.specs.Top.{Answers, CarriesOut};
+ghost use Rattle.std.specs.Prelude.{length, Some};
+ghost use Rattle.ae_top.specs.Inner.Command.{Carries};
+ghost use Rattle.ae_top.specs.Inner.FileWords.{NamesAmong};
+ghost use Rattle.ae_top.specs.Top.{Answers, CarriesOut, Keeps};
 ghost use Rattle.ae_top.specs.World.{port, world};
 
 use crate::Status;
@@ -74,57 +77,48 @@ fn carry_out<S: Store, I: Source, O: Sink, P: Sink>(
     ensures err { P.same_rest err.old err.new }
 {
     match read_task(words) {
-        Some(Task::Run { prog, fuel }) => run(
-            alloc,
-            &words[prog as usize],
-            prog,
-            fuel,
-            store,
-            input,
-            out,
-            err,
-        ),
-        Some(Task::Plain { prog, trace, fuel }) => plain(
-            alloc,
-            &words[prog as usize],
-            prog,
-            &words[trace as usize],
-            fuel,
-            store,
-            input,
-            out,
-            err,
-        ),
-        Some(Task::Print { kind, file }) => {
-            print(alloc, kind, &words[file as usize], file, store, out)
-        }
-        Some(Task::PrintSchema { file }) => {
-            print_schema(alloc, &words[file as usize], file, store, out)
-        }
-        Some(Task::PrintEvents { schema, events }) => print_events(
-            alloc,
-            &words[schema as usize],
-            schema,
-            &words[events as usize],
-            events,
-            store,
-            out,
-        ),
-        Some(
-            Task::Regenerate {
-                schema,
-                events,
-                trace,
-            },
-        ) => regenerate(
-            alloc,
-            &words[schema as usize],
-            schema,
-            &words[events as usize],
-            events,
-            &words[trace as usize],
-            store,
-        ),
+        Some(task) => carry_out_task(alloc, words, task, store, input, out, err),
         None => Status::Usage,
+    }
+}
+
+/// Carries out what is asked for, whose file words are among these words, but for the line of its status.
+fn carry_out_task<S: Store, I: Source, O: Sink, P: Sink>(
+    alloc: Global,
+    words: &[Word],
+    task: Task,
+    store: &mut S,
+    input: &mut I,
+    out: &mut O,
+    err: &mut P,
+) -> Status
+    requires { NamesAmong (length words.now) task }
+    ensures carries { let before = world (port (S.told store.old) (S.faults store.old))
+        (port (I.told input.old) (I.faults input.old)) (port (O.told out.old) (O.faults out.old))
+        (port (P.told err.old) (P.faults err.old)) in
+        let now = world (port (S.told store.new) (S.faults store.new))
+        (port (I.told input.new) (I.faults input.new)) (port (O.told out.new) (O.faults out.new))
+        (port (P.told err.new) (P.faults err.new)) in
+        Carries (Keeps (Some task) words.now result before now) result before now }
+    ensures store { S.same_rest store.old store.new }
+    ensures input { I.same_rest input.old input.new }
+    ensures out { O.same_rest out.old out.new }
+    ensures err { P.same_rest err.old err.new }
+{
+    match task {
+        Task::Run { prog, fuel } => run(alloc, words, prog, fuel, store, input, out, err),
+        Task::Plain { prog, trace, fuel } => {
+            plain(alloc, words, prog, trace, fuel, store, input, out, err)
+        }
+        Task::Print { kind, file } => print(alloc, words, kind, file, store, out),
+        Task::PrintSchema { file } => print_schema(alloc, words, file, store, out),
+        Task::PrintEvents { schema, events } => {
+            print_events(alloc, words, schema, events, store, out)
+        }
+        Task::Regenerate {
+            schema,
+            events,
+            trace,
+        } => regenerate(alloc, words, schema, events, trace, store),
     }
 }

@@ -20,13 +20,14 @@ returns-then-is_err-clause-keeps g c =
     let now : World = world (port (g.S.Store.told c.make.new.self) (g.S.Store.faults c.make.new.self)) (port (g.I.Source.told c.args.input.now) (g.I.Source.faults c.args.input.now))
     (port (g.O.Sink.told c.args.out.now) (g.O.Sink.faults c.args.out.now)) (port (g.P.Sink.told c.args.err.now) (g.P.Sink.faults c.args.err.now)) in
     let mid = g.S.Store.told c.load_program.new.store in
-    let trace = c.args.trace.now in
+    let name = c.name_at.result.now in
+    let trace = c.name_at-trace.result.now in
     let loaded = c.in-Ok.ensures.loaded in
     let same = c.in-Ok.ensures.blames.same (λ is. absurd (cc is)) in
     let later = c.make.ensures.cause.later in
     let risen : HasRisen (g.S.Store.faults c.load_program.new.store) now.store.faults = search rules in
     let made : SameFile mid now.store.told trace ⊎ IsEmptyFile now.store.told trace = search rules in
-    carries_unmade (KeepsPlain c.args.prog c.args.name.now trace c.args.fuel Status.StoreFault before now) before now refl
+    rw (← c.name_at.ensures, ← c.name_at-trace.ensures) (carries_unmade (KeepsPlain c.args.prog name trace c.args.fuel Status.StoreFault before now) before now refl
     (blames_behind (Status.StoreFault ≡ Status.StoreFault) before.store.faults (g.S.Store.faults c.load_program.new.store) now.store.faults same
     (blamed _ (g.S.Store.faults c.load_program.new.store) now.store.faults refl later risen))
     (inr (inl (record {
@@ -41,7 +42,7 @@ returns-then-is_err-clause-keeps g c =
         | inr empty ↦ inr empty
       ];
       others = same_others_after before.store.told mid now.store.told trace c.in-Ok.ensures.files c.make.ensures.others;
-    })))
+    }))))
 
 pub returns-then-is_err-clause-store : goal.returns-then-is_err-clause-store
 returns-then-is_err-clause-store g c =
@@ -65,8 +66,8 @@ returns-clause-keeps g c =
     (port (g.O.Sink.told c.trace_machine-answer.new.out) (g.O.Sink.faults c.trace_machine-answer.new.out)) (port (g.P.Sink.told c.trace_machine-answer.new.err) (g.P.Sink.faults c.trace_machine-answer.new.err)) in
     let mid = g.S.Store.told c.load_program.new.store in
     let made = g.S.Store.told c.make.new.self in
-    let name = c.args.name.now in
-    let trace = c.args.trace.now in
+    let name = c.name_at.result.now in
+    let trace = c.name_at-trace.result.now in
     let machine = c.in-Ok.machine in
     let answer = c.trace_machine-answer.result in
     let status = c.status_of.result in
@@ -74,7 +75,7 @@ returns-clause-keeps g c =
     let ran = c.trace_machine-answer.ensures.ran in
     let served : g.S.Store.faults c.make.new.self ≡ g.S.Store.faults c.load_program.new.store = search rules in
     let same = served ∙ c.in-Ok.ensures.blames.same (λ is. absurd (cc is)) in
-    carries_run traced_refusal name machine c.args.fuel answer before now loaded ran (KeepsPlain c.args.prog name trace c.args.fuel status before now) status c.status_of.ensures
+    rw (← c.name_at.ensures, ← c.name_at-trace.ensures) (carries_run traced_refusal name machine c.args.fuel answer before now loaded ran (KeepsPlain c.args.prog name trace c.args.fuel status before now) status c.status_of.ensures
     (blames_behind (IsErrOf answer MachineFault.EventFault) before.store.faults (g.S.Store.faults c.make.new.self) now.store.faults same c.trace_machine-answer.ensures.blames)
     (inr (inr (record {
       answer = answer;
@@ -83,7 +84,7 @@ returns-clause-keeps g c =
       lines = lines_of traced_refusal name trace machine c.args.fuel answer before.store.told now.store.told before.streams.input.told loaded c.trace_machine-answer.ensures.lines;
       others = same_others_after before.store.told mid now.store.told trace c.in-Ok.ensures.files
           (same_others_both mid made now.store.told trace c.make.ensures.others c.trace_machine-answer.ensures.others);
-    })))
+    }))))
 
 pub returns-clause-store : goal.returns-clause-store
 returns-clause-store g c =

@@ -14,17 +14,18 @@ returns-in-Ok-clause-keeps g c =
     (port (g.O.Sink.told c.args.out.now) (g.O.Sink.faults c.args.out.now)) (port (g.P.Sink.told c.args.err.now) (g.P.Sink.faults c.args.err.now)) in
     let now : World = world (port (g.S.Store.told c.load_program.new.store) (g.S.Store.faults c.load_program.new.store)) (port (g.I.Source.told c.run_machine.new.input) (g.I.Source.faults c.run_machine.new.input))
     (port (g.O.Sink.told c.run_machine.new.out) (g.O.Sink.faults c.run_machine.new.out)) (port (g.P.Sink.told c.run_machine.new.err) (g.P.Sink.faults c.run_machine.new.err)) in
+    let name = c.name_at.result.now in
     let machine = c.in-Ok.machine in
     let answer = c.run_machine.result in
     let status = c.status_of.result in
     let loaded = c.in-Ok.ensures.loaded in
     let ran = c.run_machine.ensures.ran in
     let store = unblamed (IsErrOf answer MachineFault.EventFault) before.store.faults now.store.faults c.run_machine.ensures.served (c.in-Ok.ensures.blames.same (λ is. absurd (cc is))) in
-    carries_run refusal_of c.args.name.now machine c.args.fuel answer before now loaded ran (KeepsRun c.args.prog c.args.name.now c.args.fuel status before now) status c.status_of.ensures store
+    rw (← c.name_at.ensures) (carries_run refusal_of name machine c.args.fuel answer before now loaded ran (KeepsRun c.args.prog name c.args.fuel status before now) status c.status_of.ensures store
     (inr (record {
       answer = answer;
       says = c.status_of.ensures;
-      ran = ran_file refusal_of c.args.name.now machine c.args.fuel answer before now loaded ran;
+      ran = ran_file refusal_of name machine c.args.fuel answer before now loaded ran;
       served = c.run_machine.ensures.served;
       files = c.in-Ok.ensures.files;
-    }))
+    })))
