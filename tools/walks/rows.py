@@ -319,6 +319,13 @@ def unlikely():
         landing = ("landing", 0x1009C, target, values)
         rest = [("end", 0, 7 if target % 4 else 6, target)] if not schema.words.get(target) else []
         yield from row("a landing at %08x" % target, schema, {"E": of_records(schema, [landing] + rest)})
+    # behind the jump a load from the address in each register, so that the trace shows all of them
+    words = {0x10074: SchemaWord(0x15, 0x00008067, 0), 0x10078: SchemaWord(0x11, 0x0000A003, 0xFFFFFFFE), 0x100F4: SchemaWord(0x26, 0x73, 0)}
+    words.update({0x10074 + 4 * register: SchemaWord(0x01, register << 15 | 0x2003, 0) for register in range(2, 32)})
+    schema = Schema(0x10074, words)
+    values = tuple(0x10101010 + 0x01010101 * register for register in range(31))
+    yield from row("a landing with a value for each register", schema,
+                   {"E": of_records(schema, [("landing", 0x10074, 0x10078, values), ("end", 0x100F4, 1, 7)])})
     schema, _ = whole("a program that writes a text")
     for answer in (0, 6, 0x80000000, 0xFFFFFFFF):
         records = [("value", 0x10084, answer), ("end", 0x10090, 1, answer)]
@@ -350,10 +357,10 @@ def astray():
     files = {"E": of_records(schema, good[:4] + [("end", 0x1008C, 4, 4)], bytes(1)), "F": of_records(schema, [("end", 0, 6, 0)], bytes(4)),
              "G": of_records(schema, [("end", 0x10078, 2, 0)], bytes([3]))}
     yield from rows_by_answer("an end that is astray, and bytes behind it", schema, files)
-    files = {"E%d" % number: of_words(schema, "0001007a ffffffda " + word) for number, word in enumerate(
-        ["00010074", "00010075", "00010076", "0001007c", "00010082", "00010084", "00010072", "00010093", "00010090", "00000000", "00000001",
-         "00000002", "ffffffff", "0001007d ffffffff"])}
-    yield from rows_by_answer("a word that begins no record", schema, files)
+    words = ["%08x" % word for word in range(0x10074, 0x10094)]
+    words += ["00010072", "00000000", "00000001", "00000002", "ffffffff", "0001007d ffffffff"]
+    files = {"E%d" % number: of_words(schema, "0001007a ffffffda " + word) for number, word in enumerate(words)}
+    yield from rows_by_answer("each first word behind a value", schema, files)
     # two ways lead to one word, so that an undirected path of edges that aren't recorded isn't one that can be gone
     schema = schema_of([0x00000463, 0x0080006F, 0x0040006F, 0x00000073, 0x00100073])
     records = [("value", 0x10080, 1), ("end", 0x10080, 1, 0), ("end", 0x10084, 3, 0), ("end", 0x10084, 3, 1), ("taken", 0x10074), ("fall", 0x10080),
