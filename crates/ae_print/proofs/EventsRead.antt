@@ -7,11 +7,10 @@ use Rattle.ev_format.specs.declared.place.Place.{Place}
 use Rattle.ev_format.specs.declared.place.Place.TheVariants.{Start}
 use Rattle.ev_format.specs.declared.record.Record.{Record}
 use Rattle.ev_format.specs.declared.stop.Stop.{Stop}
-use Rattle.ev_format.specs.declared.stop.Stop.TheVariants.{Finished}
-use Rattle.ev_format.specs.Reading.{BeginsWith, Reading, ReadsOne, StopsWith, place_behind}
+use Rattle.ev_format.specs.Reading.{ReadsOne, StopsWith, place_behind}
 use Rattle.ev_format.specs.Shapes.{ShapeView}
 use Rattle.ev_format.proofs.LawsOfReadings.{begins, reads_all, reads_one_more}
-use Rattle.ae_print.specs.EventText.{IsBegunEventText, IsEventText, record_line, record_lines, stop_text}
+use Rattle.ae_print.specs.EventText.{IsBegunEventText, so_far, IsEventText, record_line, record_lines, stop_text}
 use Rattle.ae_print.specs.Inner.EventsRead.{IsReadTo}
 
 record_lines-one : (records : List (ℕ × Record)) (placed : ℕ × Record) → record_lines (records ++ placed ∷ []) ≡ record_lines records ++ record_line placed
@@ -43,19 +42,7 @@ module _ (shape : ShapeView) where
 
   -- the lines so far
   pub begun : (bytes : List ℕ) (mid : Place) (left text : List ℕ) → IsReadTo shape bytes mid left text → IsBegunEventText shape bytes text
-  begun bytes mid left text read = record {
-    records = read.records;
-    begins = begins shape Start bytes read.records mid left read.reads;
-    stop = Finished;
-    is = read.is ∙ sym (append-nil (record_lines read.records));
-  }
-
-  begins_all : (place : Place) (bytes : List ℕ) (records : List (ℕ × Record)) (stop : Stop) → Reading shape place bytes records stop → BeginsWith shape place bytes records
-  begins_all place bytes [] stop reading = tt
-  begins_all place bytes (first ∷ records) stop reading = (reading.0, reading.1, reading.2, begins_all (place_behind first.0 first.1) reading.0 records stop reading.3)
-
-  pub begun_all : (bytes : List ℕ) (stop : Stop) (text : List ℕ) → IsEventText shape bytes stop text → IsBegunEventText shape bytes text
-  begun_all bytes stop text all = record { records = all.records; begins = begins_all Start bytes all.records stop all.reads; stop = stop; is = all.is }
+  begun bytes mid left text read = so_far read.records (begins shape Start bytes read.records mid left read.reads) read.is
 
 -- what holds anyway holds after an error
 pub after_error : {T E : Type 0} (P : Type 0) (result : Result T E) → P → IfErr result (λ _. P)

@@ -57,9 +57,7 @@ pub record IsEventText (shape : ShapeView) (bytes : List ℕ) (stop : Stop) (tex
   pub reads : Reading shape Start bytes records stop
   pub is : text ≡ record_lines records ++ stop_text stop
 
--- the lines of the first so many records, with the last line where the file is cut behind them
-pub record IsBegunEventText (shape : ShapeView) (bytes : List ℕ) (text : List ℕ) : Type 0 where
-  pub records : List (ℕ × Record)
-  pub begins : BeginsWith shape Start bytes records
-  pub stop : Stop
-  pub is : text ≡ record_lines records ++ stop_text stop
+-- the lines of the first so many records, or the text of all
+pub data IsBegunEventText (shape : ShapeView) (bytes : List ℕ) (text : List ℕ) : Type 0 where
+  so_far : (records : List (ℕ × Record)) → BeginsWith shape Start bytes records → text ≡ record_lines records → IsBegunEventText shape bytes text
+  to_its_stop : (stop : Stop) → IsEventText shape bytes stop text → IsBegunEventText shape bytes text

@@ -1,7 +1,7 @@
 use Rattle.std.proofs.Common.{rules}
 use Rattle.ae_ports.proofs.LawsOfFaults.{HasCause-failed}
-use Rattle.ae_print.specs.EventText.{IsBegunEventText, IsEventText}
-use Rattle.ae_print.proofs.EventsRead.{after_error, begun_all, cause_after, cause_of}
+use Rattle.ae_print.specs.EventText.{IsBegunEventText, to_its_stop, IsEventText}
+use Rattle.ae_print.proofs.EventsRead.{after_error, cause_after, cause_of}
 use Rattle.ae_print.proofs.SomeFinished.{some_written, some_all, some_front, some_let_go}
 use Rattle.ae_print.proofs.events.print_events.Goals as goal
 
@@ -27,7 +27,7 @@ returns-in_err-finish-clause-front g c =
     let some = c.in_ok-stop.ensures.all in
     let written = some_written g.K.Sink.told g.K.Sink.faults g.K.Sink.same_rest (IsEventText shape bytes c.in_ok-stop.stop) _ _ _ c.new-lines.ensures.begun some in
     after_error _ _ (some_front g.K.Sink.told g.K.Sink.faults g.K.Sink.same_rest (IsBegunEventText shape bytes) _ c.finish.new.self.sink.now _ some.text _ (search rules)
-    (begun_all shape bytes c.in_ok-stop.stop some.text some.is) (c.finish.ensures.finished _ some.text written))
+    (to_its_stop c.in_ok-stop.stop some.is) (c.finish.ensures.finished _ some.text written))
 
 pub returns-in_err-finish-clause-cause : goal.returns-in_err-finish-clause-cause
 returns-in_err-finish-clause-cause g c =

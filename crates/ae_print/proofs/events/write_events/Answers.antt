@@ -4,9 +4,9 @@ use Rattle.ev_format.specs.declared.place.Place.TheVariants.{Start}
 use Rattle.ev_format.specs.Reading.{ReadsOne, StopsWith, place_behind}
 use Rattle.ev_format.proofs.LawsOfReadings.{at_place}
 use Rattle.ae_nums.proofs.LawsOfWriters.{Puts-none}
-use Rattle.ae_print.specs.EventText.{IsBegunEventText, IsEventText, record_line, stop_text}
+use Rattle.ae_print.specs.EventText.{IsBegunEventText, to_its_stop, IsEventText, record_line, stop_text}
 use Rattle.ae_print.specs.Inner.EventsRead.{IsReadTo}
-use Rattle.ae_print.proofs.EventsRead.{after_error, all_read, begun, begun_all, none_read, one_read}
+use Rattle.ae_print.proofs.EventsRead.{after_error, all_read, begun, none_read, one_read}
 use Rattle.ae_print.proofs.Lines.{puts_anyway, some_both}
 use Rattle.ae_print.proofs.events.write_events.Goals as goal
 
@@ -57,7 +57,7 @@ returns-in_err-write_stop-in-Err-clause-front g c =
     let line : List ℕ = stop_text c.in-Err.stop in
     let stops = at_place c.loop-offset.records place (λ at. StopsWith shape at left c.in-Err.stop) c.loop-offset.invariant.1 c.in-Err.ensures.stopped in
     after_error _ c.from_residual-in_err-write_stop-in-Err.result (some_both g.met.K.Sink.rest_joins _ _ _ (IsReadTo shape all place left) (λ written. written ≡ line) (IsBegunEventText shape all)
-    (λ text written read is. begun_all shape all c.in-Err.stop _ (all_read shape all place left text written c.in-Err.stop read stops is))
+    (λ text written read is. to_its_stop c.in-Err.stop (all_read shape all place left text written c.in-Err.stop read stops is))
     c.loop-offset.invariant.2 (record { text = line; is = refl; puts = puts_anyway _ _ line c.write_stop.result c.write_stop.ensures }))
 
 pub returns-in-Err-clause-all : goal.returns-in-Err-clause-all
