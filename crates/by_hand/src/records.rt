@@ -6,7 +6,7 @@ use crate::pieces::Pieces;
 use crate::telling::{add, add_words, bytes, hex_text, split, words};
 use crate::two_words::TwoWords;
 use ae_ports::MemorySink;
-use ev_format::{EventFault, Next, Record, Records, Shape, put_record};
+use ev_format::{EventFault, Next, Record, Records, Shape, Values, put_record};
 use row_form::{not_understood, number, word};
 use std::alloc::{AllocError, Global};
 use std::io;
@@ -101,6 +101,11 @@ fn record_of(kind: &str, words: &[u32]) -> Option<Record>
             at: *at,
             value: *value,
         }),
+        ("landing", [at, target, values @ ..]) if *at % 4 == 0 => Some(Record::Landing {
+            at: *at,
+            target: *target,
+            values: values_of(values)?,
+        }),
         ("end", [at, kind, detail]) if *at % 4 == 0 => Some(Record::End {
             at: *at,
             kind: *kind,
@@ -108,6 +113,18 @@ fn record_of(kind: &str, words: &[u32]) -> Option<Record>
         }),
         _ => None,
     }
+}
+
+/// The values of a landing, `None` where there are more than it may have.
+fn values_of(words: &[u32]) -> Option<Values> {
+    let mut values = Values::new();
+    for word in words {
+        if values.words().len() == 31 {
+            return None;
+        }
+        values.push(*word);
+    }
+    Some(values)
 }
 
 /// Whether the edge by which the word at an address falls is recorded, as a shape says that is passed by its trait.
