@@ -71,6 +71,13 @@ cut_at (rec ∷ records) more labels is =
       ends = up_to_both p.ways rec c.front ∙ ap (λ (rest : List Label). moves_to p.ways rec ++ rest) c.ends;
     }
 
+-- a walk with all of some records begins with one with the first of them
+pub front_explained : (parts : SchemaParts) (records more : List Record) → IsExplained parts (records ++ more) → IsExplained parts records
+front_explained parts records more explained =
+    let c = cut_at records more explained.0 explained.1.told in
+    let f = front_made parts c.front c.behind (Before parts.entry) first_registers (subst (λ (labels : List Label). IsSome (walk_of parts labels)) c.all explained.1.made) in
+    (c.front, record { made = ap is_some f.1; told = c.told })
+
 -- before any record
 pub IsAfter-none : (parts : SchemaParts) → IsAfter parts [] (record { items = []; position = Before parts.entry; registers = first_registers })
 IsAfter-none parts =

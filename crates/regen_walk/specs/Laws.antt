@@ -1,5 +1,5 @@
 -- Laws of walks: this project's own.
-use Rattle.std.specs.Prelude.{◌≡◌, Bool, List, [], ◌∷◌}
+use Rattle.std.specs.Prelude.{◌≡◌, Bool, List, [], ◌∷◌, ◌++◌}
 use Rattle.ae_nums.specs.declared.item.Item.{Item}
 use Rattle.ev_format.specs.declared.record.Record.{Record}
 use Rattle.schema_form.specs.SchemaParts.{SchemaParts}
@@ -35,3 +35,7 @@ pub record HaveItems (parts : SchemaParts) (records : List Record) : Type 0 wher
 
 abbrev pub ExplainedHaveItems : Type 0
 ExplainedHaveItems = (parts : SchemaParts) → IsSchema parts → (records : List Record) → IsExplained parts records → HaveItems parts records
+
+-- a front of explained records is explained
+abbrev pub FrontsAreExplained : Type 0
+FrontsAreExplained = (parts : SchemaParts) (records more : List Record) → IsExplained parts (records ++ more) → IsExplained parts records

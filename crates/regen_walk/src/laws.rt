@@ -1,5 +1,5 @@
 //! Laws of walks, each the contract of a function that does nothing.
-ghost use Rattle.regen_walk.specs.Laws.{ExplainedHaveItems, SameRecordsSameWalk, ShortestEndsWithRecord};
+ghost use Rattle.regen_walk.specs.Laws.{ExplainedHaveItems, FrontsAreExplained, SameRecordsSameWalk, ShortestEndsWithRecord};
 
 /// Two walks with the same records are one, up to and with the move that has the last of them. That holds of any records, whether a
 /// run gave them or not.
@@ -15,4 +15,9 @@ pub fn the_shortest_walk_ends_with_a_record()
 /// Records that are explained have items, and no others.
 pub fn explained_records_have_one_list_of_items()
     ensures { ExplainedHaveItems }
+{}
+
+/// Where records are explained, the first so many of them are too.
+pub fn fronts_of_explained_records_are_explained()
+    ensures { FrontsAreExplained }
 {}
