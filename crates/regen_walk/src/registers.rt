@@ -6,6 +6,7 @@ ghost use Rattle.rv_machine.specs.State.{register_of, with_register};
 ghost use Rattle.regen_walk.specs.Registers.{with_values};
 
 use ae_nums::registers_of;
+use rv_code::FIRST_STACK_POINTER;
 
 /// The registers at the start: those of a run at its start.
 #[tactic(auto, unfolding(rv_machine::specs::Start::first_registers))]
@@ -13,7 +14,7 @@ pub fn first_registers() -> [u32; 32]
     ensures { result ≡ first_registers }
 {
     let mut registers = [0; 32];
-    registers[2] = 0x7fff_ffc0;
+    registers[2] = FIRST_STACK_POINTER;
     registers
 }
 

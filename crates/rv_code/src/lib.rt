@@ -32,8 +32,8 @@ pub use laws::{
     no_word_agrees_with_two, places_are_in_order, words_and_instructions_agree,
 };
 pub use limits::{
-    MAPPED_LIMIT, NOTED_REGIONS_LIMIT, NOTED_WORDS_LIMIT, RANGES_LIMIT, REGIONS_LIMIT,
-    STACK_LENGTH, STACK_START, TRACER_START, WORDS_LIMIT,
+    FIRST_STACK_POINTER, MAPPED_LIMIT, NOTED_REGIONS_LIMIT, NOTED_WORDS_LIMIT, RANGES_LIMIT,
+    REGIONS_LIMIT, STACK_LENGTH, STACK_START, TRACER_START, WORDS_LIMIT,
 };
 pub use lists::ListOf;
 pub use parts::{base, class_of, reads, target, writes};

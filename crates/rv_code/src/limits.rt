@@ -6,6 +6,9 @@ pub const STACK_START: u32 = 0x7ff0_0000;
 /// How many bytes the stack has.
 pub const STACK_LENGTH: u32 = 0x10_0000;
 
+/// The address in x2 at the start of a run: near the end of the stack, a multiple of 16.
+pub const FIRST_STACK_POINTER: u32 = 0x7fff_ffc0;
+
 /// The first address of what belongs to the tracer: new code, masks, the buffer of events and a save page.
 pub const TRACER_START: u32 = 0xc000_0000;
 

@@ -3,11 +3,8 @@ ghost use Rattle.std.specs.Prelude.{◌≡◌, ◌^◌, ◌<◌, length, IfOk, A
 ghost use Rattle.rv_code.specs.Code.{extents_of};
 ghost use Rattle.rv_machine.specs.Start.{first_registers};
 
-use rv_code::{Extent, ListOf, Note, Range};
+use rv_code::{Extent, FIRST_STACK_POINTER, ListOf, Note, Range};
 use std::alloc::{AllocError, Global};
-
-/// Near the end of the stack, a multiple of 16.
-const FIRST_STACK_POINTER: u32 = 0x7fff_ffc0;
 
 /// Where the words of the ranges stand.
 pub(crate) fn code_extents(alloc: Global, ranges: &[Range]) -> Result<Vec<Extent>, AllocError>

@@ -9,7 +9,7 @@ ghost use Rattle.rv_machine.specs.Inner.Advance.{Advances, Stays, StepsAlone, Tu
 ghost use Rattle.rv_machine.specs.Inner.Decoded.{decoded_at};
 ghost use Rattle.rv_machine.specs.Held.{Held, Outside, program_in, state_of, loaded_of};
 ghost use Rattle.rv_machine.specs.Outcomes.{seen_in, seen_of, Runs, kept_by_step, kept_by_run};
-ghost use Rattle.rv_machine.specs.Ports.{HasCauses, Passes, tells, counts};
+ghost use Rattle.rv_machine.specs.Ports.{HasCauses, PassesOn, tells, counts};
 ghost use Rattle.rv_machine.specs.Promises.{AnswersStep, AnswersRun, ForEach};
 ghost use Rattle.rv_machine.specs.State.{register_of, with_register};
 ghost use Rattle.rv_machine.specs.Step.{step_of};
@@ -188,7 +188,7 @@ impl Machine {
     ) -> Result<Option<Ending>, MachineFault>
         ensures passes { let told = tells (I.told input.old) (O.told out.old) (P.told err.old) (Q.told events.old) in
             let told_now = tells (I.told input.new) (O.told out.new) (P.told err.new) (Q.told events.new) in
-            Passes told told_now }
+            PassesOn told told_now }
         ensures turns { let told = tells (I.told input.old) (O.told out.old) (P.told err.old) (Q.told events.old) in
             let told_now = tells (I.told input.new) (O.told out.new) (P.told err.new) (Q.told events.new) in
             Turns (λ outside. step_of (program_in self.old) (state_of self.old outside)) self.old told (K.took items.old items.new) result self.new told_now }
@@ -225,7 +225,7 @@ impl Machine {
     ) -> Result<Outcome, MachineFault>
         ensures passes { let told = tells (I.told input.old) (O.told out.old) (P.told err.old) (Q.told events.old) in
             let told_now = tells (I.told input.new) (O.told out.new) (P.told err.new) (Q.told events.new) in
-            Passes told told_now }
+            PassesOn told told_now }
         ensures runs { let told = tells (I.told input.old) (O.told out.old) (P.told err.old) (Q.told events.old) in
             let told_now = tells (I.told input.new) (O.told out.new) (P.told err.new) (Q.told events.new) in
             (bytes : List ℕ) → I.told input.old ≡ Some bytes → Runs bytes fuel self.old told (K.took items.old items.new) result self.new told_now }
