@@ -8,4 +8,3 @@ mod numbers;
 mod options;
 
 pub use command::{Command, read_words};
-pub use files::names_a_file;

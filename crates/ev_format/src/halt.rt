@@ -13,7 +13,7 @@ pub enum Halt {
 
 impl Halt {
     /// What each call of `next` answers from then on.
-    pub fn answer(self) -> Result<Next, EventFault>
+    pub(crate) fn answer(self) -> Result<Next, EventFault>
         ensures { result ≡ answer_of self }
     {
         match self {

@@ -59,7 +59,7 @@ impl Predecessors {
     }
 
     /// The code words alone.
-    pub fn into_code(self) -> ListOf<Range>
+    pub(crate) fn into_code(self) -> ListOf<Range>
         ensures code { result ≡ self }
         ensures order { AreCodeExtents (extents_of self) }
         ensures ends { AllByRecursion EndsInSpace (extents_of self) }
@@ -74,7 +74,7 @@ impl Predecessors {
     }
 
     /// What is needed for the bases of all loads and stores. The only error is want of memory.
-    pub fn needed(&self, alloc: Global) -> Result<Needed, AllocError>
+    pub(crate) fn needed(&self, alloc: Global) -> Result<Needed, AllocError>
         ensures { IfOk result (λ needed. AreNeeded self.now (base_at self.now) needed.masks.items needed.used.items) }
     {
         needed_in(alloc, self.code.as_slice(), &self.falls, &self.takes)

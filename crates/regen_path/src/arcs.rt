@@ -23,14 +23,14 @@ pub struct Ways {
 
 impl Ways {
     /// No arc.
-    pub const NONE: Ways = Ways {
+    pub(crate) const NONE: Ways = Ways {
         fall: None,
         taken: None,
     };
 
     /// Where the arc of this kind leads, if there is one.
     #[inline(always)]
-    pub fn by(&self, kind: u8) -> Option<u32>
+    pub(crate) fn by(&self, kind: u8) -> Option<u32>
         ensures { result ≡ way_by self.now kind }
     {
         match kind {
