@@ -20,7 +20,7 @@ number_within blocks address code None is = tt
 number_within blocks address false (Some number) is = absurd (cc is)
 number_within blocks address true (Some number) is = (position-Some (λ (block : Block). holds block address) blocks number (record { leader = 0; last = 0 }) is).0
 
-taken_again : (taken : Bool) → is_taken_kind (kind_by taken) ≡ taken
+pub taken_again : (taken : Bool) → is_taken_kind (kind_by taken) ≡ taken
 taken_again true = refl
 taken_again false = refl
 

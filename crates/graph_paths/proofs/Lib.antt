@@ -2,3 +2,4 @@ pub mod LawsOfPaths
 pub mod LawsOfForests
 pub mod LawsOfTrails
 pub mod LawsOfWeights
+pub mod LawsOfTwoSorts

@@ -11,7 +11,7 @@ use Rattle.graph_paths.specs.Paths.{Path, here, over}
 use Rattle.graph_paths.specs.Forests.{HasNoCycle, IsAmong, ClosesNone, StandOnce}
 use Rattle.graph_paths.proofs.LawsOfPaths.{Closes-wider}
 use Rattle.graph_paths.proofs.LawsOfForests.{HasNoCycle-within, ClosesNone-HasNoCycle, HasNoCycle-ClosesNone}
-use Rattle.flow_tree.specs.WitnessEdges.{ends_of, LeavesCode, Joins, forth, back, IsUnmarked, CutsCycles}
+use Rattle.flow_tree.specs.WitnessEdges.{ends_of, LeavesCode, Joins, joins_forth, joins_back, IsUnmarked, CutsCycles}
 use Rattle.flow_tree.proofs.LawsOfJoins.{Joins-IsUndirected, Closes-decides, joins_within}
 use Rattle.schema_form.specs.FreeEdges.{ClosesEarlier, IsFirstToClose}
 use Rattle.schema_form.specs.Inner.Inners.{IsInner}
@@ -92,12 +92,12 @@ module _ (edges : List Edge) (count : ℕ) where
 
   -- edges of a front join what they join among all
   from_front : (number one other : ℕ) → number < count → Joins (take count edges) number one other → Joins edges number one other
-  from_front number one other less (forth leads) = forth (sym (same_ends number less) ∙ leads)
-  from_front number one other less (back leads) = back (sym (same_ends number less) ∙ leads)
+  from_front number one other less (joins_forth leads) = joins_forth (sym (same_ends number less) ∙ leads)
+  from_front number one other less (joins_back leads) = joins_back (sym (same_ends number less) ∙ leads)
 
   to_front : (number one other : ℕ) → number < count → Joins edges number one other → Joins (take count edges) number one other
-  to_front number one other less (forth leads) = forth (same_ends number less ∙ leads)
-  to_front number one other less (back leads) = back (same_ends number less ∙ leads)
+  to_front number one other less (joins_forth leads) = joins_forth (same_ends number less ∙ leads)
+  to_front number one other less (joins_back leads) = joins_back (same_ends number less ∙ leads)
 
   module _ (marks : List Bool) (none : marks ≡ replicate count false) where
     unmarked : (number : ℕ) → number < count → IsUnmarked marks number
@@ -141,8 +141,8 @@ module _ (count : ℕ) where
   none_leaves edges all number leaves = let found = (inner_ends edges number leaves.from None all leaves.ends).1.1 in absurd (cc found)
 
   pub joins_inside : (edges : List Edge) → AllByRecursion (IsInner count) edges → (number one other : ℕ) → Joins edges number one other → one < count
-  joins_inside edges all number one other (forth leads) = (inner_ends edges number one (Some other) all leads).0
-  joins_inside edges all number one other (back leads) =
+  joins_inside edges all number one other (joins_forth leads) = (inner_ends edges number one (Some other) all leads).0
+  joins_inside edges all number one other (joins_back leads) =
       let found = (inner_ends edges number other (Some one) all leads).1 in
       let same = same_Some one found.0 found.1 in
       let within = found.2 in

@@ -20,7 +20,6 @@ mod RecordedWays
 mod MadeWords
 mod OneSchema
 mod WordBlocks
-mod TwoSorts
 mod OwnWords
 mod OwnEdges
 mod OwnForest

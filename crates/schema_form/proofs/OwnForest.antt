@@ -20,14 +20,14 @@ use Rattle.flow_graph.specs.Laws.{BlocksAreRuns, WordsAreInOneBlock}
 use Rattle.graph_paths.specs.Paths.{Path, here, over, Closes}
 use Rattle.graph_paths.proofs.LawsOfPaths.{Path-edge, Path-turned}
 use Rattle.graph_paths.proofs.LawsOfForests.{HasNoCycle-within}
-use Rattle.flow_tree.specs.WitnessEdges.{LeadsTo, Joins, forth, back, IsUnmarked, CutsCycles}
+use Rattle.flow_tree.specs.WitnessEdges.{LeadsTo, Joins, joins_forth, joins_back, IsUnmarked, CutsCycles}
 use Rattle.flow_tree.proofs.LawsOfJoins.{Joins-IsUndirected}
 use Rattle.schema_form.specs.declared.word.SchemaWord.{SchemaWord}
 use Rattle.schema_form.specs.FreeEdges.{free_edges, HaveNoCycle}
 use Rattle.schema_form.specs.OfImage.{AreSchemaWordsOf}
 use Rattle.schema_form.specs.Valid.{EndsBelowStack}
 use Rattle.schema_form.proofs.OwnEdges.{IsFree, code_at, small_at, free_at, one_edge, target_code}
-use Rattle.schema_form.proofs.TwoSorts.{two_sorts, numbers_below, among_numbers, numbers_among, numbers_once, path_over_parts}
+use Rattle.graph_paths.proofs.LawsOfTwoSorts.{two_sorts, numbers_below, among_numbers, numbers_among, numbers_once, path_over_parts}
 use Rattle.schema_form.proofs.WordBlocks.{edge_for, has_block, goes_on, taken_ends, falls_behind, is_code_aligned}
 
 -- an edge that leads from one place to another
@@ -136,7 +136,7 @@ module _ (parts : CodeParts) (marks : List Bool) (words : List SchemaWord) (orde
               absurd (free.clear (record { number = made.number; edge = between; there = made.there; from = refl; kind = refl; marked = in_marks ∙ ap (λ (b : Bool). Some b) marked }))
           | inr clear ↦ in_marks ∙ ap (λ (b : Bool). Some b) clear
         ];
-        joined = forth (leads_by (edges_of parts) made.number (part from) (part to) between made.there first second);
+        joined = joins_forth (leads_by (edges_of parts) made.number (part from) (part to) between made.there first second);
       }
 
   -- each other edge goes on within a block
@@ -200,8 +200,8 @@ module _ (parts : CodeParts) (marks : List Bool) (words : List SchemaWord) (orde
       subst (λ (e : Edge). Crosses e one other) same (crosses_forth number one other lead (ap (λ (e : Edge). is_last parts e.from) same ∙ last))
 
   crosses : (number one other : ℕ) (edge : Edge) → slice_get frees number ≡ Some edge → is_last parts edge.from ≡ true → Joins frees number one other → Crosses edge one other
-  crosses number one other edge there last (forth leads) = crosses_lead number one other edge there last leads
-  crosses number one other edge there last (back leads) = turned edge other one (crosses_lead number other one edge there last leads)
+  crosses number one other edge there last (joins_forth leads) = crosses_lead number one other edge there last leads
+  crosses number one other edge there last (joins_back leads) = turned edge other one (crosses_lead number other one edge there last leads)
 
   inside_lead : (number one other : ℕ) (edge : Edge) → slice_get frees number ≡ Some edge → is_last parts edge.from ≡ false → LeadsTo frees number one other → Inside edge one other
   inside_lead number one other edge there inner leads =
@@ -210,12 +210,12 @@ module _ (parts : CodeParts) (marks : List Bool) (words : List SchemaWord) (orde
       subst (λ (e : Edge). Inside e one other) same (inside_forth number one other lead (ap (λ (e : Edge). is_last parts e.from) same ∙ inner))
 
   same_part : (number one other : ℕ) (edge : Edge) → slice_get frees number ≡ Some edge → is_last parts edge.from ≡ false → Joins frees number one other → part one ≡ part other
-  same_part number one other edge there inner (forth leads) = (inside_lead number one other edge there inner leads).same
-  same_part number one other edge there inner (back leads) = sym (inside_lead number other one edge there inner leads).same
+  same_part number one other edge there inner (joins_forth leads) = (inside_lead number one other edge there inner leads).same
+  same_part number one other edge there inner (joins_back leads) = sym (inside_lead number other one edge there inner leads).same
 
   edge_of : (number one other : ℕ) → Joins frees number one other → (edge : Edge) × (slice_get frees number ≡ Some edge)
-  edge_of number one other (forth leads) = let lead = leading frees number one other leads in (lead.edge, lead.there)
-  edge_of number one other (back leads) = let lead = leading frees number other one leads in (lead.edge, lead.there)
+  edge_of number one other (joins_forth leads) = let lead = leading frees number one other leads in (lead.edge, lead.there)
+  edge_of number one other (joins_back leads) = let lead = leading frees number other one leads in (lead.edge, lead.there)
 
   module _ (number from to : ℕ) (is : IsOfSort true number) (mine : Crosses is.edge from to) where
     abbrev may : ℕ → Type 0
@@ -251,7 +251,7 @@ module _ (parts : CodeParts) (marks : List Bool) (words : List SchemaWord) (orde
 
     -- only the edge itself leads from its word to the next
     low_step : (other one two : ℕ) → others other → Joins frees other one two → address_at one ≤ is.edge.from → address_at two ≤ is.edge.from
-    low_step other one two is_other (forth leads) low =
+    low_step other one two is_other (joins_forth leads) low =
         let step = inside_lead other one two is_other.0.edge is_other.0.there is_other.0.sort leads in
         let mine = is_code_aligned stretches is.edge.from (code_from is.edge (is_free number is.edge is.there)) in
         let first = step.first in
@@ -267,7 +267,7 @@ module _ (parts : CodeParts) (marks : List Bool) (words : List SchemaWord) (orde
         own_fall : (edge : Edge) → slice_get frees number ≡ Some edge → is_last parts edge.from ≡ false → edge.kind ≡ kind_by false
         own_fall edge there inner =
             let free = is_free number edge there in free.kind ∙ ap kind_by (only_falls edge free.taken free.way inner)
-    low_step other one two is_other (back leads) low =
+    low_step other one two is_other (joins_back leads) low =
         let step = inside_lead other two one is_other.0.edge is_other.0.there is_other.0.sort leads in
         let first = step.first in
         let next = step.next in
@@ -286,8 +286,8 @@ module _ (parts : CodeParts) (marks : List Bool) (words : List SchemaWord) (orde
         omega (arith, next, low)
 
     inner_closes_none : (from to : ℕ) → Joins frees number from to → Path (Joins frees) others from to → ⊥
-    inner_closes_none from to (forth leads) path = leads_high from to leads path
-    inner_closes_none from to (back leads) path = leads_high to from leads (Path-turned (Joins-IsUndirected frees) path)
+    inner_closes_none from to (joins_forth leads) path = leads_high from to leads path
+    inner_closes_none from to (joins_back leads) path = leads_high to from leads (Path-turned (Joins-IsUndirected frees) path)
 
   pub own_forest : HaveNoCycle (free_edges stretches words)
   own_forest =

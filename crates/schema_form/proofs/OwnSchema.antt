@@ -12,7 +12,7 @@ use Rattle.rv_code.specs.Image.{IsImage, IsRange, IsRegion, region_end, word_cou
 use Rattle.rv_code.specs.ImageParts.{ImageParts}
 use Rattle.rv_code.specs.Limits.{ranges_limit, words_limit}
 use Rattle.rv_code.specs.Places.{AreCodeExtents}
-use Rattle.rv_code.proofs.LawsOfPlaces.{length-code_addresses_of_ranges}
+use Rattle.rv_code.proofs.LawsOfPlaces.{at_place, length-code_addresses_of_ranges}
 use Rattle.flow_graph.specs.CodeParts.{CodeParts}
 use Rattle.flow_graph.specs.Edges.{edges_of}
 use Rattle.flow_graph.specs.Laws.{BlocksAreRuns, WordsAreInOneBlock}
@@ -40,15 +40,10 @@ region_below has_note region none is = elim is.allowed [
   | inr noted ↦ let clash : true ≡ false = sym noted.0 ∙ none in absurd (cc clash)
 ]
 
-region_at : (P : Region → Type 0) (regions : List Region) → AllByRecursion P regions → (place : ℕ) (other : Region) → place < length regions → P (get_or regions place other)
-region_at P [] all place other inside = absurd (omega arith)
-region_at P (region ∷ regions) all zero other inside = all.0
-region_at P (region ∷ regions) all (suc place) other inside = region_at P regions all.1 place other (omega arith)
-
 range_below : (has_note : Bool) (regions : List Region) (range : Range) → has_note ≡ false → AllByRecursion (IsRegion has_note) regions → IsRange regions range → EndsBelowStack (extent_of range)
 range_below has_note regions range none all is =
     let held = is.held in
-    let fits = region_below has_note held.1 none (subst (IsRegion has_note) held.3 (region_at (IsRegion has_note) regions all held.0 held.1 held.2)) in
+    let fits = region_below has_note held.1 none (subst (IsRegion has_note) held.3 (at_place (IsRegion has_note) regions all held.0 held.1 held.2)) in
     omega (arith, fits, held.4.below)
 
 ranges_below : (has_note : Bool) (regions : List Region) (ranges : List Range) → has_note ≡ false → AllByRecursion (IsRegion has_note) regions → AllByRecursion (IsRange regions) ranges

@@ -19,7 +19,7 @@ use Rattle.flow_graph.specs.Blocks.{blocks_of, block_at, holds}
 use Rattle.flow_graph.specs.Edges.{edges_of, kind_by, is_taken_kind, way_among}
 use Rattle.flow_graph.specs.Leaders.{is_leader}
 use Rattle.flow_graph.specs.Laws.{BlocksAreRuns, WordsAreInOneBlock, IsEdge}
-use Rattle.flow_graph.proofs.LawsOfEdges.{edges_join}
+use Rattle.flow_graph.proofs.LawsOfEdges.{edges_join, taken_again}
 use Rattle.flow_tree.specs.WitnessEdges.{ends_of, CutsCycles}
 use Rattle.need_sets.specs.Needed.{base, feeds, through, IsNeeded, IsUsed}
 use Rattle.need_sets.specs.Words.{class_at}
@@ -169,10 +169,6 @@ may_keep code address class is (inr load) = let same : Load ≡ class = one_clas
 same_edge : (edges : List Edge) (one other : ℕ) (x y : Edge) → one ≡ other → slice_get edges one ≡ Some x → slice_get edges other ≡ Some y → x ≡ y
 same_edge edges one other x y same is is_too = cc (same, is, is_too)
 
-taken_kind : (taken : Bool) → is_taken_kind (kind_by taken) ≡ taken
-taken_kind true = refl
-taken_kind false = refl
-
 module _ (parts : CodeParts) (marks : List Bool) (runs : BlocksAreRuns parts) (once : WordsAreInOneBlock parts) (cuts : CutsCycles (edges_of parts) marks) where
   -- a way that leads out of the code is recorded
   pub out_recorded : (taken : Bool) (address target : ℕ) → address + 4 < 2 ^ 32 → has_code parts address ≡ true → way_among parts.code taken address ≡ Some target → has_code parts target ≡ false
@@ -201,7 +197,7 @@ module _ (parts : CodeParts) (marks : List Bool) (runs : BlocksAreRuns parts) (o
       cc clash
     where
       way : is_taken_kind recorded.edge.kind ≡ taken
-      way = ap is_taken_kind recorded.kind ∙ taken_kind taken
+      way = ap is_taken_kind recorded.kind ∙ taken_again taken
 
   module _ (address : ℕ) (word : SchemaWord) (small : address + 4 < 2 ^ 32) (code : has_code parts address ≡ true) (is : IsSchemaWordOf parts marks address word) where
     abbrev pub instr : Instr
