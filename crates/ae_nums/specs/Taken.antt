@@ -5,5 +5,5 @@ use Rattle.ae_ports.specs.declared.failed.Failed.{Failed}
 use Rattle.ae_nums.specs.declared.item.Item.{Item}
 
 -- A take took the item. After Failed it took the item or nothing.
-abbrev pub Takes : (took : List Item → Type 0) → Item → Result Unit Failed → Type 0
-Takes took item result = MatchResult result (λ _. took (item ∷ [])) (λ _. took [] ⊎ took (item ∷ []))
+abbrev pub TakesItem : (took : List Item → Type 0) → Item → Result Unit Failed → Type 0
+TakesItem took item result = MatchResult result (λ _. took (item ∷ [])) (λ _. took [] ⊎ took (item ∷ []))

@@ -1,7 +1,7 @@
 ghost use Rattle.std.specs.Prelude.{ℕ, List, [], ◌++◌};
 ghost use Rattle.ae_ports.specs.Fault.{HasCause};
 ghost use Rattle.ae_nums.specs.declared.item.Item.{Item};
-ghost use Rattle.ae_nums.specs.Taken.{Takes};
+ghost use Rattle.ae_nums.specs.Taken.{TakesItem};
 
 use crate::Item;
 use ae_ports::Failed;
@@ -18,9 +18,9 @@ pub trait Taker {
     /// What the taker was made with and stands on is the same in both.
     ghost same_rest: { Self → Self → Type 0 };
 
-    /// Takes an item. After `Failed` it has taken the item or not.
+    /// TakesItem an item. After `Failed` it has taken the item or not.
     fn take(&mut self, item: Item) -> Result<(), Failed>
-        ensures content { Takes (took self.old self.new) item result }
+        ensures content { TakesItem (took self.old self.new) item result }
         ensures cause { HasCause (faults self.old) (faults self.new) result }
         ensures rest { same_rest self.old self.new };
 

@@ -1,9 +1,9 @@
 -- Texts that are written as far as memory is there, and what a sink has of them in the end.
-use Rattle.std.proofs.Common.{◌≡◌, ℕ, ◌≤◌, List, [], ◌++◌, Option, Result, Ok, Err, refl, sym, ap, ◌∙◌, subst, arith, append-nil, append_assoc}
+use Rattle.std.proofs.Common.{◌≡◌, ℕ, List, [], ◌++◌, Option, Result, Ok, Err, refl, ap, ◌∙◌, subst, arith, append-nil, append_assoc}
 use Rattle.std.specs.Prelude.{OnOk, OnErr, IsErrOf}
 use Rattle.ae_ports.specs.declared.failed.Failed.{Failed}
 use Rattle.ae_ports.specs.Content.{Appends, AppendsFront}
-use Rattle.ae_ports.specs.Fault.{HasRisen, HasCause}
+use Rattle.ae_ports.specs.Fault.{HasRisen}
 use Rattle.ae_ports.proofs.LawsOfContent.{AppendsFront-all, AppendsFront-more}
 use Rattle.ae_nums.specs.declared.writer.LineWriter.{LineWriter}
 use Rattle.ae_nums.specs.Writer.{Written, Wrote, Puts, Finished}
@@ -79,17 +79,3 @@ module _ {K : Type 0} (told : K → Option (List ℕ)) (faults : K → ℕ) wher
 pub on_error : (P : Type 0) (result : Result Unit PrintFault) → P → OnErr result P
 on_error P (Ok done) holds = tt
 on_error P (Err fault) holds = holds
-
-pub on_success : (P : Type 0) (result : Result Unit PrintFault) → P → OnOk result P
-on_success P (Ok done) holds = holds
-on_success P (Err fault) holds = tt
-
--- what a cause says of the count in the end
-pub same_at : (before now end : ℕ) (done : Unit) → now ≡ end → HasCause {T = Unit} before now (Ok done) → end ≡ before
-same_at before now end done is cause = sym is ∙ cause.same
-
-pub later_at : (before now end : ℕ) (result : Result Unit Failed) → now ≡ end → HasCause before now result → before ≤ end
-later_at before now end result is cause = let later = cause.later in omega (arith, later, is)
-
-pub risen_at : (before now end : ℕ) (failed : Failed) → now ≡ end → HasCause {T = Unit} before now (Err failed) → HasRisen before end
-risen_at before now end failed is cause = subst (HasRisen before) is cause.risen

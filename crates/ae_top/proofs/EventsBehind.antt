@@ -40,15 +40,12 @@ no_schema_blamed why is before now by blames =
     blames_as (why ≡ NoSchema.StoreFault) (is ≡ NoEvents.StoreFault) before now (λ at. by ∙ ap no_events_by at) (λ at. by_store why (sym by ∙ at)) blames
 
 -- the schema was read, and the event file wasn't
-lacks_bytes : (told : Option Files) (schema events : List ℕ) (why : NoEvents) → IsThere told events → LacksSchema told schema NoSchema.NoMemory → IsUnread why → LacksEvents told schema events why
-lacks_bytes told schema events NoEvents.MissingSchema there sized unread = absurd unread
-lacks_bytes told schema events NoEvents.MissingEvents there sized unread = absurd unread
-lacks_bytes told schema events NoEvents.StoreFault there sized unread = tt
-lacks_bytes told schema events (NoEvents.BadSchema fault) there sized unread = absurd unread
-lacks_bytes told schema events NoEvents.NoMemory there sized unread = (there, sized)
-
 pub no_bytes : (told : Option Files) (schema events : List ℕ) (why : NoEvents) → IsThere told events → LacksSchema told schema NoSchema.NoMemory → IsUnread why → LacksEvents told schema events why
-no_bytes told schema events why there sized unread = lacks_bytes told schema events why there sized unread
+no_bytes told schema events NoEvents.MissingSchema there sized unread = absurd unread
+no_bytes told schema events NoEvents.MissingEvents there sized unread = absurd unread
+no_bytes told schema events NoEvents.StoreFault there sized unread = tt
+no_bytes told schema events (NoEvents.BadSchema fault) there sized unread = absurd unread
+no_bytes told schema events NoEvents.NoMemory there sized unread = (there, sized)
 
 -- behind a call that changed no file
 module _ (before now : Option Files) (schema events : List ℕ) (same : SameFiles before now) where

@@ -17,6 +17,7 @@ use Rattle.ae_top.specs.Inputs.{IsAbsent, IsNotRead}
 use Rattle.ae_top.specs.SchemaFile.{HasNoSchema, IsNoSchema, IsSchemaIn, LacksSchema, no_schema_by, status_without_schema}
 use Rattle.ae_top.specs.World.{World, Blames, BlamesDevices}
 use Rattle.ae_top.proofs.Blamed.{no_schema_blames, schema_unused}
+use Rattle.ae_top.proofs.ToldBehind.{absent_before, bytes_before}
 
 -- a file that is longer than a schema may be is refused for it
 refused_long : (bytes : List ℕ) → SCHEMA_LIMIT < length bytes → form_refusal bytes ≡ Some TooLarge
@@ -46,31 +47,18 @@ pub lacks_in : {T : Type 0} (result : Result T NoSchema) (told : Option Files) (
 lacks_in (Ok schema) told name bytes has none = tt
 lacks_in (Err why) told name bytes has none = lacks_by told name bytes why has none
 
--- what a store has that was there before
-has_before : (before now : Option Files) (name bytes : List ℕ) → SameFiles before now → HasBytes now name bytes → HasBytes before name bytes
-has_before None None name bytes same has = tt
-has_before None (Some now) name bytes same has = absurd same
-has_before (Some before) None name bytes same has = absurd same
-has_before (Some before) (Some now) name bytes same has = sym (same name) ∙ has
-
-absent_before : (before now : Option Files) (name : List ℕ) → SameFiles before now → IsAbsent now name → IsAbsent before name
-absent_before None None name same gone = tt
-absent_before None (Some now) name same gone = absurd same
-absent_before (Some before) None name same gone = absurd same
-absent_before (Some before) (Some now) name same gone = sym (same name) ∙ gone
-
 lacks_before : (before now : Option Files) (name : List ℕ) (why : NoSchema) → SameFiles before now → LacksSchema now name why → LacksSchema before name why
 lacks_before before now name NoSchema.Missing same lacks = absent_before before now name same lacks
 lacks_before before now name NoSchema.StoreFault same lacks = tt
-lacks_before before now name NoSchema.NoMemory same lacks = (lacks.0, has_before before now name lacks.0 same lacks.1, lacks.2)
-lacks_before before now name (NoSchema.Bad fault) same lacks = (lacks.0, has_before before now name lacks.0 same lacks.1, lacks.2)
+lacks_before before now name NoSchema.NoMemory same lacks = (lacks.0, bytes_before before now name lacks.0 same lacks.1, lacks.2)
+lacks_before before now name (NoSchema.Bad fault) same lacks = (lacks.0, bytes_before before now name lacks.0 same lacks.1, lacks.2)
 
 pub lacked_before : {T : Type 0} (result : Result T NoSchema) (before now : Option Files) (name : List ℕ) → SameFiles before now → IfErr result (LacksSchema now name) → IfErr result (LacksSchema before name)
 lacked_before (Ok schema) before now name same lacks = tt
 lacked_before (Err why) before now name same lacks = lacks_before before now name why same lacks
 
 pub schema_before : (before now : Option Files) (name : List ℕ) (schema : SchemaParts) → SameFiles before now → IsSchemaIn now name schema → IsSchemaIn before name schema
-schema_before before now name schema same has = (has.0, has_before before now name has.0 same has.1, has.2)
+schema_before before now name schema same has = (has.0, bytes_before before now name has.0 same has.1, has.2)
 
 -- there is no schema to work on
 pub carries_no_schema : (word : ℕ) (name : List ℕ) (why : NoSchema) (status : Status) (before now : World) → status ≡ status_without_schema why word

@@ -1,18 +1,18 @@
-pub mod Behind
-pub mod Blamed
-pub mod FilesBehind
-pub mod FromItsGraph
-pub mod Fronts
-pub mod Kept
-pub mod EventsBehind
-pub mod KeptEvents
-pub mod KeptRegenerated
-pub mod KeptSchema
-pub mod Named
-pub mod Printed
-pub mod Ran
-pub mod Regenerated
-pub mod Shown
-pub mod ToldBehind
-pub mod TooLong
-pub mod Traced
+mod Behind
+mod Blamed
+mod FilesBehind
+mod FromItsGraph
+mod Fronts
+mod Kept
+mod EventsBehind
+mod KeptEvents
+mod KeptRegenerated
+mod KeptSchema
+mod Named
+mod Printed
+mod Ran
+mod Regenerated
+mod Shown
+mod ToldBehind
+mod TooLong
+mod Traced

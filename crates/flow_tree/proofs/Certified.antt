@@ -7,7 +7,7 @@ use Rattle.graph_paths.specs.Forests.{IsAmong}
 use Rattle.graph_paths.proofs.LawsOfPaths.{Path-edge, Path-wider, Closes-wider, Closes-path}
 use Rattle.graph_paths.proofs.LawsOfForests.{Retains-among, Retains-spans}
 use Rattle.graph_paths.proofs.LawsOfTrails.{Trail-within}
-use Rattle.flow_tree.specs.WitnessEdges.{LeadsTo, Joins, forth, RanksBefore, IsWitness, leaves, closes, IsMarked, IsUnmarked, AreWitnesses, AreGrown, CutsCycles, IsTreePath, IsCertificate}
+use Rattle.flow_tree.specs.WitnessEdges.{LeadsTo, Joins, joins_forth, RanksBefore, IsWitness, leaves, closes, IsMarked, IsUnmarked, AreWitnesses, AreGrown, CutsCycles, IsTreePath, IsCertificate}
 use Rattle.flow_tree.specs.Inner.Growing.{IsSpanning}
 use Rattle.flow_tree.proofs.LawsOfJoins.{Joins-IsUndirected, LeadsTo-same, leaving_joins_none, ranks_apart, ranks_on, ranks_either}
 use Rattle.flow_tree.proofs.Least.{ranked, kept, kept_acyclic, joins_ranked, among_ranked, mark_cases, both_marks, marked_dropped, IsSpanning-CutsCycles}
@@ -18,7 +18,7 @@ module _ (edges : List Edge) (weights : List ℕ) (marks : List Bool) (are : Are
   kept_no_witness : (number : ℕ) → IsAmong (kept edges weights).kept number → IsWitness edges weights number → ⊥
   kept_no_witness number is (leaves out) =
       let ends = (ranked edges weights).ends number (Retains-among (kept edges weights).keeps number is) in
-      leaving_joins_none edges number ends.0 ends.1 out (forth ends.2)
+      leaving_joins_none edges number ends.0 ends.1 out (joins_forth ends.2)
   kept_no_witness number is (closes closed) = elim (kept_or_closed edges weights number (ranked edges weights).ranked (kept edges weights).keeps (Retains-among (kept edges weights).keeps number is)) [
     | inl both ↦ both.1 (among_ranked edges weights number closed)
     | inr better ↦ kept_acyclic edges weights number is
@@ -85,10 +85,10 @@ module _ (edges : List Edge) (weights : List ℕ) (marks : List Bool) (are : Are
   path_ranks_before number from to path marked leads tree other is =
       let better = better_list (kept edges weights).kept number in
       let cuts = IsSpanning-CutsCycles edges weights marks AreWitnesses-IsSpanning in
-      elim (kept_or_closed edges weights number (ranked edges weights).ranked (kept edges weights).keeps (joins_ranked edges weights number from to (forth leads))) [
-        | inl both ↦ absurd (marked_dropped edges weights marks AreWitnesses-IsSpanning number from to marked (forth leads) both.0)
+      elim (kept_or_closed edges weights number (ranked edges weights).ranked (kept edges weights).keeps (joins_ranked edges weights number from to (joins_forth leads))) [
+        | inl both ↦ absurd (marked_dropped edges weights marks AreWitnesses-IsSpanning number from to marked (joins_forth leads) both.0)
         | inr closed ↦
-            let joined = Path-wider better.back (Closes-path (Joins-IsUndirected edges) number from to (forth leads) closed) in
+            let joined = Path-wider better.back (Closes-path (Joins-IsUndirected edges) number from to (joins_forth leads) closed) in
             let there = Trail-within (Joins-IsUndirected edges) cases_eq (IsUnmarked marks) cuts.no_cycle path better.better from to tree.unmarked
             (λ e among. kept_unmarked_too e (better.among e among).0) tree.once tree.trail joined other is in
             (better.among other there).1
@@ -108,7 +108,7 @@ certified edges marks number from to path marked leads tree = record {
       subst (λ (place : ℕ). IsTreePath edges marks path place other) same.0 (subst (IsTreePath edges marks path from) same.1 tree);
   before = λ weights are other is. path_ranks_before edges weights marks are number from to path marked leads tree other is;
   of_tree_edge = λ unmarked. absurd (both_marks marks number marked unmarked);
-  of_leaving = λ out. absurd (leaving_joins_none edges number from to out (forth leads));
+  of_leaving = λ out. absurd (leaving_joins_none edges number from to out (joins_forth leads));
 }
 
 pub none_needed : (edges : List Edge) (marks : List Bool) (number : ℕ) (path : List ℕ) → path ≡ [] → ((from to : ℕ) → IsMarked marks number → LeadsTo edges number from to → ⊥) → IsCertificate edges marks number path

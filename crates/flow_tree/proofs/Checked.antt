@@ -8,7 +8,7 @@ use Rattle.graph_paths.specs.Forests.{HasNoCycle, IsAmong}
 use Rattle.graph_paths.proofs.LawsOfPaths.{Path-wider}
 use Rattle.graph_paths.proofs.LawsOfForests.{HasNoCycle-within}
 use Rattle.flow_tree.specs.declared.cells.Cell.{Cell}
-use Rattle.flow_tree.specs.WitnessEdges.{LeavesCode, Joins, forth, IsMarked, IsUnmarked, CutsCycles}
+use Rattle.flow_tree.specs.WitnessEdges.{LeavesCode, Joins, joins_forth, IsMarked, IsUnmarked, CutsCycles}
 use Rattle.flow_tree.specs.Inner.Cells.{end_count, AreCells, HaveEdges, IsFilled, IsLeaf, IsSettled, Remains}
 use Rattle.flow_tree.proofs.Degrees.{only_one, counts_join}
 use Rattle.flow_tree.proofs.LawsOfJoins.{inner, leaving, missing, edge_kind, leaving_joins_none}
@@ -32,12 +32,12 @@ filled_remains edges marks stays cells left count filled = record {
 -- where all edges that aren't marked are in cells, each that leaves is marked
 pub filled_leaving : (edges : List Edge) (marks : List Bool) (cells : List Cell) (left : ℕ) → length marks ≡ length edges → IsFilled edges marks cells (length edges) left → (number : ℕ) → LeavesCode edges number → IsMarked marks number
 filled_leaving edges marks cells left count filled number out = elim (edge_kind edges number) [
-  | inner from to within leads ↦ absurd (leaving_joins_none edges number from to out (forth leads))
+  | inner from to within leads ↦ absurd (leaving_joins_none edges number from to out (joins_forth leads))
   | leaving within again ↦ elim (mark_cases marks number (omega (arith, count))) [
     | inl marked ↦ marked
     | inr unmarked ↦
         let ends = filled.held.inner number (filled.back number within unmarked) in
-        absurd (leaving_joins_none edges number ends.0 ends.1 out (forth ends.2))
+        absurd (leaving_joins_none edges number ends.0 ends.1 out (joins_forth ends.2))
   ]
   | missing past none ↦ absurd (let same : None ≡ Some (out.from, None) = sym none ∙ out.ends in cc)
 ]
@@ -75,7 +75,7 @@ fails edges marks cells left some remains settled blocks cuts =
     let forest : HasNoCycle (Joins edges) (IsAmong remains.rest) = HasNoCycle-within remains.within cuts.no_cycle in
     let first = some_left remains.rest (λ none. some (remains.count ∙ none)) in
     let ends = remains.held.inner first.0 first.1 in
-    let trail = leaf_trail edges remains.rest remains.held.once remains.held.inner forest first.0 ends.0 ends.1 first.1 (forth ends.2) in
+    let trail = leaf_trail edges remains.rest remains.held.once remains.held.inner forest first.0 ends.0 ends.1 first.1 (joins_forth ends.2) in
     let leaf = leaf_here edges remains.rest cells trail.leaf remains.held blocks trail.one_end in
     let within = slice_get_within cells trail.leaf (record { count = 1; sum = leaf.0 }) leaf.1 in
     elim (settled trail.leaf within) [ inl nowhere ↦ absurd nowhere | inr no_leaf ↦ no_leaf leaf ]

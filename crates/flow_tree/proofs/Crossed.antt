@@ -15,6 +15,7 @@ use Rattle.std.proofs.lemmas.List.Sums.{sum_by-cons, length-filter}
 use Rattle.std.proofs.lemmas.List.Sorted.{sum_by-IsPermutation}
 use Rattle.std.proofs.lemmas.Map.Keys.{IsStrictlyIncreasing-from_sorted}
 use Rattle.std.proofs.lemmas.Map.Made.{length-from_keys}
+use Rattle.rv_code.proofs.LawsOfPlaces.{Rises-lower}
 use Rattle.rv_code.proofs.LawsOfLists.{Climbs, Rises, Rises-from_IsStrictlyIncreasing, non_decreasing_from_Climbs}
 use Rattle.flow_graph.specs.CodeParts.{CodeParts}
 use Rattle.flow_graph.specs.Edges.{edges_of}
@@ -50,10 +51,6 @@ differs q k below = elim (cases_Bool (nat_eq q k)) [
 not_member : (q low : ℕ) (ks : List ℕ) → Rises low ks → q < low → is_member nat_eq ks q ≡ false
 not_member q low [] rises below = refl
 not_member q low (k ∷ ks) rises below = rw (differs q k (omega (arith, rises.0))) (not_member q (k + 1) ks rises.1 (omega (arith, rises.0)))
-
-Rises-lower : (low high : ℕ) (ks : List ℕ) → low ≤ high → Rises high ks → Rises low ks
-Rises-lower low high [] below rises = tt
-Rises-lower low high (k ∷ ks) below rises = (omega (arith, rises.0), rises.1)
 
 kept_or_not : (p : ℕ × ℕ → Bool) (low : ℕ) (e : ℕ × ℕ) (es : List (ℕ × ℕ)) (b : Bool) → low ≤ e.0 → Rises (e.0 + 1) (keys_of es) → Rises low (keys_of (cond b (e ∷ es) es))
 kept_or_not p low e es true above rest = (above, rest)

@@ -7,7 +7,7 @@ use Rattle.std.proofs.lemmas.List.Sums.{sum_by-cons}
 use Rattle.std.proofs.lemmas.Option.{slice_get_cases, some_pair_parts}
 use Rattle.flow_graph.specs.declared.edge.Edge.{Edge}
 use Rattle.graph_paths.specs.Forests.{IsAmong}
-use Rattle.flow_tree.specs.WitnessEdges.{LeadsTo, Joins, forth, back}
+use Rattle.flow_tree.specs.WitnessEdges.{LeadsTo, Joins, joins_forth, joins_back}
 use Rattle.flow_tree.specs.Inner.Cells.{end_count}
 
 abbrev pub here_if : (at block : ℕ) → ℕ
@@ -46,15 +46,15 @@ here_most at block = elim (cases_eq at block) [ inl same ↦ omega (arith, here_
 
 -- an edge that joins a block has an end there
 pub joins_counts : (edges : List Edge) (block number other : ℕ) → Joins edges number block other → 1 ≤ end_count edges block number
-joins_counts edges block number other (forth leads) = omega (arith, end_count_is edges block number block other leads, here_same block block refl)
-joins_counts edges block number other (back leads) = omega (arith, end_count_is edges block number other block leads, here_same block block refl)
+joins_counts edges block number other (joins_forth leads) = omega (arith, end_count_is edges block number block other leads, here_same block block refl)
+joins_counts edges block number other (joins_back leads) = omega (arith, end_count_is edges block number other block leads, here_same block block refl)
 
 -- and one that has an end there joins it
 pub counts_join : (edges : List Edge) (block number from to : ℕ) → LeadsTo edges number from to → 1 ≤ end_count edges block number → (other : ℕ) × Joins edges number block other
 counts_join edges block number from to leads some = elim (cases_eq from block) [
-  | inl same ↦ (to, forth (subst (λ (s : ℕ). LeadsTo edges number s to) same leads))
+  | inl same ↦ (to, joins_forth (subst (λ (s : ℕ). LeadsTo edges number s to) same leads))
   | inr differ ↦ elim (cases_eq to block) [
-    | inl same ↦ (from, back (subst (LeadsTo edges number from) same leads))
+    | inl same ↦ (from, joins_back (subst (LeadsTo edges number from) same leads))
     | inr other ↦ absurd (omega (arith, end_count_is edges block number from to leads, here_other from block differ, here_other to block other, some))
   ]
 ]
@@ -72,7 +72,7 @@ pub record OneEnd (edges : List Edge) (number block far : ℕ) : Type 0 where
 
 one_from : (edges : List Edge) (number block from to : ℕ) → LeadsTo edges number from to → from ≡ block → to ≢ block → OneEnd edges number block to
 one_from edges number block from to leads same differ = record {
-  joined = forth (subst (λ (s : ℕ). LeadsTo edges number s to) same leads);
+  joined = joins_forth (subst (λ (s : ℕ). LeadsTo edges number s to) same leads);
   differ = differ;
   far_one = omega (arith, end_count_is edges to number from to leads, here_same to to refl, here_other from to (λ equal. differ (sym equal ∙ same)));
   others = λ other one two. omega (arith, end_count_is edges other number from to leads, here_other from other (λ equal. one (sym equal ∙ same)), here_other to other (λ equal. two (sym equal)));
@@ -80,7 +80,7 @@ one_from edges number block from to leads same differ = record {
 
 one_to : (edges : List Edge) (number block from to : ℕ) → LeadsTo edges number from to → to ≡ block → from ≢ block → OneEnd edges number block from
 one_to edges number block from to leads same differ = record {
-  joined = back (subst (LeadsTo edges number from) same leads);
+  joined = joins_back (subst (LeadsTo edges number from) same leads);
   differ = differ;
   far_one = omega (arith, end_count_is edges from number from to leads, here_same from from refl, here_other to from (λ equal. differ (sym equal ∙ same)));
   others = λ other one two. omega (arith, end_count_is edges other number from to leads, here_other to other (λ equal. one (sym equal ∙ same)), here_other from other (λ equal. two (sym equal)));

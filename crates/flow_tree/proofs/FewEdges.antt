@@ -16,7 +16,7 @@ use Rattle.flow_graph.specs.CodeParts.{CodeParts}
 use Rattle.flow_graph.specs.Edges.{edges_of}
 use Rattle.flow_graph.specs.Laws.{IsEdge}
 use Rattle.flow_graph.proofs.LawsOfEdges.{edges_join, blocks_are_few}
-use Rattle.flow_tree.specs.WitnessEdges.{LeadsTo, Joins, forth, back}
+use Rattle.flow_tree.specs.WitnessEdges.{LeadsTo, Joins, joins_forth, joins_back}
 
 -- the words of ranges lie between the start of the first and the end of the space
 words_from : (range : Range) (ranges : List Range) → ExtentsRise (extents_of (range ∷ ranges)) → AllByRecursion EndsInSpace (extents_of (range ∷ ranges)) → range.start + 4 * word_count (range ∷ ranges) ≤ 2 ^ 32
@@ -59,5 +59,5 @@ leads_within parts number from to leads = elim (slice_get_cases (edges_of parts)
 ]
 
 pub joins_blocks : (parts : CodeParts) (number one other : ℕ) → Joins (edges_of parts) number one other → one < length (blocks_of parts)
-joins_blocks parts number one other (forth leads) = (leads_within parts number one other leads).0
-joins_blocks parts number one other (back leads) = (leads_within parts number other one leads).1
+joins_blocks parts number one other (joins_forth leads) = (leads_within parts number one other leads).0
+joins_blocks parts number one other (joins_back leads) = (leads_within parts number other one leads).1

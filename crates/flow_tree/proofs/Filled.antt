@@ -8,7 +8,7 @@ use Rattle.std.proofs.lemmas.Option.{slice_get_within, same_Some}
 use Rattle.flow_graph.specs.declared.edge.Edge.{Edge}
 use Rattle.graph_paths.specs.Forests.{IsAmong}
 use Rattle.flow_tree.specs.declared.cells.Cell.{Cell}
-use Rattle.flow_tree.specs.WitnessEdges.{LeadsTo, forth, IsUnmarked}
+use Rattle.flow_tree.specs.WitnessEdges.{LeadsTo, joins_forth, IsUnmarked}
 use Rattle.flow_tree.specs.Inner.Cells.{end_count, cell_of, AreCells, IsFilled}
 use Rattle.flow_tree.proofs.AmongLists.{set_here, set_elsewhere}
 use Rattle.flow_tree.proofs.Degrees.{end_count_is, here_same, here_other, here_most}
@@ -36,7 +36,7 @@ sums_few : (edges : List Edge) (block : ℕ) (rest : List ℕ) → length edges 
 sums_few edges block [] few inner = omega arith
 sums_few edges block (first ∷ rest) few inner =
     let ends = inner first (inl refl) in
-    let within = joins_within edges first ends.0 ends.1 (forth ends.2) in
+    let within = joins_within edges first ends.0 ends.1 (joins_forth ends.2) in
     let times = few_times (end_count edges block first) first (2 ^ 31) (two_ends edges block first ends.0 ends.1 ends.2) (omega (arith, within, few)) in
     omega (arith, sum_by-cons (λ (n : ℕ). end_count edges block n * n) first rest, times, sums_few edges block rest few (λ number is. inner number (inr is)))
 

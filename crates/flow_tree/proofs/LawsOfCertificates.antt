@@ -3,7 +3,7 @@ use Rattle.std.proofs.Common.{◌≡◌, inl, inr, ℕ, ◌<◌, Bool, List, [],
 use Rattle.std.proofs.lemmas.Bool.{cases_eq}
 use Rattle.flow_graph.specs.declared.edge.Edge.{Edge}
 use Rattle.graph_paths.proofs.LawsOfTrails.{Path-Simple, Simple, Trail-once}
-use Rattle.flow_tree.specs.WitnessEdges.{LeadsTo, Joins, forth, IsMarked, IsUnmarked, AreGrown, IsCertificate}
+use Rattle.flow_tree.specs.WitnessEdges.{LeadsTo, Joins, joins_forth, IsMarked, IsUnmarked, AreGrown, IsCertificate}
 use Rattle.flow_tree.proofs.Certified.{grown_cuts, grown_joins, certified, none_needed}
 use Rattle.flow_tree.proofs.LawsOfJoins.{Joins-IsUndirected, edge_kind, inner, leaving, missing, leaving_joins_none}
 use Rattle.flow_tree.proofs.Least.{both_marks, mark_cases}
@@ -12,9 +12,9 @@ module _ (edges : List Edge) (marks : List Bool) (grown : AreGrown edges marks) 
   of_marked : IsMarked marks number → (path : List ℕ) × IsCertificate edges marks number path
   of_marked marked = elim (edge_kind edges number) [
     | inner from to there leads ↦
-        let simple : Simple (Joins edges) (IsUnmarked marks) from to = Path-Simple (Joins-IsUndirected edges) cases_eq (grown_joins edges marks grown number from to (forth leads)) in
+        let simple : Simple (Joins edges) (IsUnmarked marks) from to = Path-Simple (Joins-IsUndirected edges) cases_eq (grown_joins edges marks grown number from to (joins_forth leads)) in
         (simple.edges, certified edges marks number from to simple.edges marked leads (record { trail = simple.trail; once = simple.once; unmarked = simple.within }))
-    | leaving there out ↦ ([], none_needed edges marks number [] refl (λ from to is leads. leaving_joins_none edges number from to out (forth leads)))
+    | leaving there out ↦ ([], none_needed edges marks number [] refl (λ from to is leads. leaving_joins_none edges number from to out (joins_forth leads)))
     | missing past is ↦ absurd (omega (arith, past, within))
   ]
 

@@ -9,7 +9,7 @@ use Rattle.graph_paths.specs.Paths.{Closes, IsUndirected}
 use Rattle.graph_paths.specs.Forests.{IsAmong, IsReadable}
 use Rattle.graph_paths.proofs.LawsOfPaths.{Closes-path}
 use Rattle.graph_paths.proofs.LawsOfWeights.{IsKnown, Path-decides}
-use Rattle.flow_tree.specs.WitnessEdges.{ends_of, LeadsTo, LeavesCode, Joins, forth, back, RanksBefore, heavier, sooner}
+use Rattle.flow_tree.specs.WitnessEdges.{ends_of, LeadsTo, LeavesCode, Joins, joins_forth, joins_back, RanksBefore, heavier, sooner}
 
 same_source : (one two three four : ℕ) → ◌≡◌ {A = Option (ℕ × Option ℕ)} (Some (one, Some two)) (Some (three, Some four)) → one ≡ three
 same_source one two three four same = (some_pair_parts one three (Some two) (Some four) same).0
@@ -18,14 +18,14 @@ same_target : (one two three four : ℕ) → ◌≡◌ {A = Option (ℕ × Optio
 same_target one two three four same = same_Some two four (some_pair_parts one three (Some two) (Some four) same).1
 
 turned_joins : (edges : List Edge) (number one other : ℕ) → Joins edges number one other → Joins edges number other one
-turned_joins edges number one other (forth leads) = back leads
-turned_joins edges number one other (back leads) = forth leads
+turned_joins edges number one other (joins_forth leads) = joins_back leads
+turned_joins edges number one other (joins_back leads) = joins_forth leads
 
 same_ends : (edges : List Edge) (number one other three four : ℕ) → Joins edges number one other → Joins edges number three four → ((one ≡ three) × (other ≡ four)) ⊎ ((one ≡ four) × (other ≡ three))
-same_ends edges number one other three four (forth leads) (forth again) = inl (same_source one other three four (sym leads ∙ again), same_target one other three four (sym leads ∙ again))
-same_ends edges number one other three four (forth leads) (back again) = inr (same_source one other four three (sym leads ∙ again), same_target one other four three (sym leads ∙ again))
-same_ends edges number one other three four (back leads) (forth again) = inr (same_target other one three four (sym leads ∙ again), same_source other one three four (sym leads ∙ again))
-same_ends edges number one other three four (back leads) (back again) = inl (same_target other one four three (sym leads ∙ again), same_source other one four three (sym leads ∙ again))
+same_ends edges number one other three four (joins_forth leads) (joins_forth again) = inl (same_source one other three four (sym leads ∙ again), same_target one other three four (sym leads ∙ again))
+same_ends edges number one other three four (joins_forth leads) (joins_back again) = inr (same_source one other four three (sym leads ∙ again), same_target one other four three (sym leads ∙ again))
+same_ends edges number one other three four (joins_back leads) (joins_forth again) = inr (same_target other one three four (sym leads ∙ again), same_source other one three four (sym leads ∙ again))
+same_ends edges number one other three four (joins_back leads) (joins_back again) = inl (same_target other one four three (sym leads ∙ again), same_source other one four three (sym leads ∙ again))
 
 -- what edges join has no direction
 pub Joins-IsUndirected : (edges : List Edge) → IsUndirected (Joins edges)
@@ -52,14 +52,14 @@ leads_nowhere edges number from to ends is apart leads = apart (sym leads ∙ is
 
 -- an edge that leaves joins nothing
 pub leaving_joins_none : (edges : List Edge) (number one other : ℕ) → LeavesCode edges number → Joins edges number one other → ⊥
-leaving_joins_none edges number one other leaves (forth leads) =
+leaving_joins_none edges number one other leaves (joins_forth leads) =
     leads_nowhere edges number one other (Some (leaves.from, None)) leaves.ends (λ same. none-some other (sym (some_pair_parts one leaves.from (Some other) None same).1)) leads
-leaving_joins_none edges number one other leaves (back leads) =
+leaving_joins_none edges number one other leaves (joins_back leads) =
     leads_nowhere edges number other one (Some (leaves.from, None)) leaves.ends (λ same. none-some one (sym (some_pair_parts other leaves.from (Some one) None same).1)) leads
 
 missing_joins_none : (edges : List Edge) (number one other : ℕ) → ends_of edges number ≡ None → Joins edges number one other → ⊥
-missing_joins_none edges number one other is (forth leads) = leads_nowhere edges number one other None is (λ same. cc) leads
-missing_joins_none edges number one other is (back leads) = leads_nowhere edges number other one None is (λ same. cc) leads
+missing_joins_none edges number one other is (joins_forth leads) = leads_nowhere edges number one other None is (λ same. cc) leads
+missing_joins_none edges number one other is (joins_back leads) = leads_nowhere edges number other one None is (λ same. cc) leads
 
 -- an edge that joins has a number of the list
 pub joins_within : (edges : List Edge) (number one other : ℕ) → Joins edges number one other → number < length edges
@@ -75,7 +75,7 @@ Joins-IsReadable edges = record {
   same_edge = cases_eq;
   same_place = cases_eq;
   ends = λ number. elim (edge_kind edges number) [
-    | inner from to within leads ↦ inl (from, to, forth leads)
+    | inner from to within leads ↦ inl (from, to, joins_forth leads)
     | leaving within leaves ↦ inr (λ one other joined. leaving_joins_none edges number one other leaves joined)
     | missing past is ↦ inr (λ one other joined. missing_joins_none edges number one other is joined)
   ];

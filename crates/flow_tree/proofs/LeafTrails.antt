@@ -8,7 +8,7 @@ use Rattle.graph_paths.specs.Paths.{Path, here, over}
 use Rattle.graph_paths.specs.Forests.{HasNoCycle, IsAmong, StandOnce, Trail}
 use Rattle.graph_paths.proofs.LawsOfPaths.{Path-turned, Path-wider}
 use Rattle.graph_paths.proofs.LawsOfTrails.{Trail-met}
-use Rattle.flow_tree.specs.WitnessEdges.{LeadsTo, Joins, forth}
+use Rattle.flow_tree.specs.WitnessEdges.{LeadsTo, Joins, joins_forth}
 use Rattle.flow_tree.specs.Inner.Cells.{end_count}
 use Rattle.flow_tree.proofs.AmongLists.{among_either}
 use Rattle.flow_tree.proofs.Degrees.{end_count_is, here_other, here_most, joins_counts, counts_join}
@@ -98,7 +98,7 @@ module _ (edges : List Edge) (list : List ℕ) (once : StandOnce list) (inner : 
           | inl to_is ↦ absurd (forest number is (record {
             from = ends.0;
             to = ends.1;
-            ends = forth ends.2;
+            ends = joins_forth ends.2;
             path = subst (Path (Joins edges) (λ other. IsAmong list other × (other ≢ number)) ends.0) (from_is ∙ sym to_is) here;
           }))
           | inr to_differs ↦ omega (arith, end_count_is edges block number ends.0 ends.1 ends.2, here_most ends.0 block, here_other ends.1 block to_differs)

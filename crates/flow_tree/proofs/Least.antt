@@ -11,7 +11,7 @@ use Rattle.graph_paths.specs.Forests.{IsAmong, StandOnce, HasNoCycle, IsForest}
 use Rattle.graph_paths.proofs.LawsOfPaths.{Path-edge, Path-instead, Path-wider, Closes-wider}
 use Rattle.graph_paths.proofs.LawsOfForests.{HasNoCycle-within, Retains-among, Retains-ClosesNone, ClosesNone-HasNoCycle}
 use Rattle.graph_paths.proofs.LawsOfWeights.{Retains-best}
-use Rattle.flow_tree.specs.WitnessEdges.{LeavesCode, Joins, forth, back, RanksBefore, IsWitness, leaves, closes, IsUnmarked, AreWitnesses, CutsCycles, marked_weight, HaveLeastWeight}
+use Rattle.flow_tree.specs.WitnessEdges.{LeavesCode, Joins, joins_forth, joins_back, RanksBefore, IsWitness, leaves, closes, IsUnmarked, AreWitnesses, CutsCycles, marked_weight, HaveLeastWeight}
 use Rattle.flow_tree.specs.Inner.Growing.{IsSpanning}
 use Rattle.flow_tree.proofs.LawsOfJoins.{Joins-IsUndirected, Joins-IsReadable, inner, leaving, missing, edge_kind, leaving_joins_none, joins_within}
 use Rattle.flow_tree.proofs.Without.{fewer_weigh}
@@ -105,8 +105,8 @@ module _ (edges : List Edge) (weights : List ℕ) where
   kept = kept_of edges ranked.all
 
   pub joins_ranked : (number one other : ℕ) → Joins edges number one other → IsAmong ranked.all number
-  joins_ranked number one other (forth leads) = ranked.inner number one other (joins_within edges number one other (forth leads)) leads
-  joins_ranked number one other (back leads) = ranked.inner number other one (joins_within edges number one other (back leads)) leads
+  joins_ranked number one other (joins_forth leads) = ranked.inner number one other (joins_within edges number one other (joins_forth leads)) leads
+  joins_ranked number one other (joins_back leads) = ranked.inner number other one (joins_within edges number one other (joins_back leads)) leads
 
   -- what an edge closes over are edges of the list
   pub among_ranked : (number : ℕ) → Closes (Joins edges) (λ other. RanksBefore weights other number) number → Closes (Joins edges) (Better weights ranked.all number) number
@@ -130,7 +130,7 @@ module _ (edges : List Edge) (weights : List ℕ) where
   module _ (marks : List Bool) (spanning : IsSpanning edges weights marks) where
     unmarked_kept : (number : ℕ) → IsUnmarked marks number → IsAmong kept.kept number
     unmarked_kept number is = elim (edge_kind edges number) [
-      | inner from to within leads ↦ no_witness_kept number from to (forth leads) (spanning.chosen number is)
+      | inner from to within leads ↦ no_witness_kept number from to (joins_forth leads) (spanning.chosen number is)
       | leaving within out ↦ absurd (spanning.chosen number is (leaves out))
       | missing past none ↦ absurd (let within = slice_get_within marks number false is in omega (arith, spanning.count))
     ]
@@ -148,8 +148,8 @@ module _ (edges : List Edge) (weights : List ℕ) where
 
     marked_witness : (number : ℕ) → slice_get marks number ≡ Some true → IsWitness edges weights number
     marked_witness number marked = elim (edge_kind edges number) [
-      | inner from to within leads ↦ elim (kept_or_closed edges weights number ranked.ranked kept.keeps (joins_ranked number from to (forth leads))) [
-        | inl both ↦ absurd (marked_dropped number from to marked (forth leads) both.0)
+      | inner from to within leads ↦ elim (kept_or_closed edges weights number ranked.ranked kept.keeps (joins_ranked number from to (joins_forth leads))) [
+        | inl both ↦ absurd (marked_dropped number from to marked (joins_forth leads) both.0)
         | inr closed ↦ closes (Closes-wider (λ e better. better.1) number closed)
       ]
       | leaving within out ↦ leaves out
@@ -158,7 +158,7 @@ module _ (edges : List Edge) (weights : List ℕ) where
 
     leaving_marked : (number : ℕ) → LeavesCode edges number → slice_get marks number ≡ Some true
     leaving_marked number out = elim (edge_kind edges number) [
-      | inner from to within leads ↦ absurd (leaving_joins_none edges number from to out (forth leads))
+      | inner from to within leads ↦ absurd (leaving_joins_none edges number from to out (joins_forth leads))
       | leaving within again ↦ elim (mark_cases marks number (omega (arith, spanning.count))) [
         | inl marked ↦ marked
         | inr unmarked ↦ absurd (spanning.chosen number unmarked (leaves out))
@@ -172,7 +172,7 @@ module _ (edges : List Edge) (weights : List ℕ) where
         let ends = ranked.ends number there in
         let less : number < length edges = ranked.below number there in
         elim (mark_cases marks number (omega (arith, spanning.count))) [
-          | inl marked ↦ absurd (marked_dropped number ends.0 ends.1 marked (forth ends.2) is)
+          | inl marked ↦ absurd (marked_dropped number ends.0 ends.1 marked (joins_forth ends.2) is)
           | inr unmarked ↦ unmarked
         ]
 

@@ -7,7 +7,7 @@ use Rattle.graph_paths.specs.Paths.{Closes}
 use Rattle.graph_paths.specs.Forests.{IsAmong, StandOnce, Retains, none, dropped, chosen, BestLast}
 use Rattle.graph_paths.proofs.LawsOfPaths.{Path-wider, Closes-wider}
 use Rattle.graph_paths.proofs.LawsOfForests.{Retains-among, Retains-spans}
-use Rattle.flow_tree.specs.WitnessEdges.{LeadsTo, Joins, forth, RanksBefore}
+use Rattle.flow_tree.specs.WitnessEdges.{LeadsTo, Joins, joins_forth, RanksBefore}
 use Rattle.flow_tree.proofs.LawsOfJoins.{Joins-IsUndirected, inner, leaving, missing, edge_kind, leaving_joins_none, joins_within, ranks_apart, ranks_on, ranks_either, ranks_weigh, Closes-decides}
 
 -- each edge of the list ranks behind those that stand behind it
@@ -75,7 +75,7 @@ same_below edges weights count fewer none_joined = record {
   ends = fewer.ends;
   inner = λ edge from to less leads. elim (cases_lt edge count) [
     | inl before ↦ fewer.inner edge from to before leads
-    | inr last ↦ let same : edge ≡ count = omega arith in absurd (none_joined from to (forth (subst (λ (e : ℕ). LeadsTo edges e from to) same leads)))
+    | inr last ↦ let same : edge ≡ count = omega arith in absurd (none_joined from to (joins_forth (subst (λ (e : ℕ). LeadsTo edges e from to) same leads)))
   ];
 }
 

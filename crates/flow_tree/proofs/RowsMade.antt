@@ -6,7 +6,7 @@ use Rattle.std.specs.declared.alloc.Global.{Global}
 use Rattle.std.specs.declared.vec.Vec.{Vec}
 use Rattle.flow_graph.specs.declared.edge.Edge.{Edge}
 use Rattle.graph_paths.specs.Forests.{IsAmong}
-use Rattle.flow_tree.specs.WitnessEdges.{LeadsTo, Joins, forth}
+use Rattle.flow_tree.specs.WitnessEdges.{LeadsTo, Joins, joins_forth}
 use Rattle.flow_tree.specs.Inner.Growing.{row_of, AreRows}
 use Rattle.flow_tree.specs.Inner.Rows.{PutsInRow, HaveJoined}
 use Rattle.flow_tree.proofs.AmongLists.{among_front, among_end, among_either}
@@ -41,7 +41,7 @@ both_put edges old mid new number source to leads first second before = record {
       | inl below ↦ stays_in_row mid new to number second one edge (stays_in_row old mid source number first one edge (before.each edge one other below joined))
       | inr above ↦
           let same : edge ≡ number = omega arith in
-          elim ((Joins-IsUndirected edges).ends number source to one other (forth leads) (subst (λ (e : ℕ). Joins edges e one other) same joined)) [
+          elim ((Joins-IsUndirected edges).ends number source to one other (joins_forth leads) (subst (λ (e : ℕ). Joins edges e one other) same joined)) [
             | inl ends ↦ subst (λ (e : ℕ). IsAmong (row_of new one) e) (sym same)
                 (subst (λ (place : ℕ). IsAmong (row_of new place) number) ends.0 (stays_in_row mid new to number second source number (comes_in_row old mid source number first)))
             | inr ends ↦ subst (λ (e : ℕ). IsAmong (row_of new one) e) (sym same)

@@ -6,7 +6,7 @@ use Rattle.std.proofs.lemmas.Option.{slice_get-get_or, get_or_from_slice_get}
 use mathlib.Core.Bool.{beq}
 use Rattle.flow_graph.specs.declared.edge.Edge.{Edge}
 use Rattle.flow_graph.specs.declared.edge.Kind.TheVariants.{Fall}
-use Rattle.flow_tree.specs.WitnessEdges.{ends_of, LeadsTo, LeavesCode, Joins, forth, back}
+use Rattle.flow_tree.specs.WitnessEdges.{ends_of, LeadsTo, LeavesCode, Joins, joins_forth, joins_back}
 use Rattle.flow_tree.specs.Inner.Growing.{IsGrown, LeadsBeyond}
 use Rattle.flow_tree.proofs.LawsOfJoins.{Joins-IsUndirected, leaving_joins_none}
 
@@ -41,7 +41,7 @@ isnt_grown grown block within is = slice_get-get_or grown block false within ∙
 
 pub same_side : (edges : List Edge) (grown : List Bool) (number source to : ℕ) → LeadsTo edges number source to → source < length grown → to < length grown
     → get_or grown source false ≡ get_or grown to false → (one other : ℕ) → Joins edges number one other → IsGrown grown one → IsGrown grown other
-same_side edges grown number source to leads source_within to_within same one other joined on = elim ((Joins-IsUndirected edges).ends number source to one other (forth leads) joined) [
+same_side edges grown number source to leads source_within to_within same one other joined on = elim ((Joins-IsUndirected edges).ends number source to one other (joins_forth leads) joined) [
   | inl ends ↦ subst (IsGrown grown) ends.1 (is_grown grown to to_within (sym same ∙ ap (λ (b : ℕ). get_or grown b false) ends.0 ∙ get_or_from_slice_get grown one true false on))
   | inr ends ↦ subst (IsGrown grown) ends.0 (is_grown grown source source_within (same ∙ ap (λ (b : ℕ). get_or grown b false) ends.1 ∙ get_or_from_slice_get grown one true false on))
 ]
@@ -49,12 +49,12 @@ same_side edges grown number source to leads source_within to_within same one ot
 pub leads_to_target : (edges : List Edge) (grown : List Bool) (number source to : ℕ) → LeadsTo edges number source to → source < length grown → to < length grown
     → get_or grown source false ≡ true → get_or grown to false ≡ false → LeadsBeyond edges grown number to
 leads_to_target edges grown number source to leads source_within to_within on off =
-    record { near = source; joined = forth leads; reached = is_grown grown source source_within on; unreached = isnt_grown grown to to_within off }
+    record { near = source; joined = joins_forth leads; reached = is_grown grown source source_within on; unreached = isnt_grown grown to to_within off }
 
 pub leads_to_source : (edges : List Edge) (grown : List Bool) (number source to : ℕ) → LeadsTo edges number source to → source < length grown → to < length grown
     → get_or grown source false ≡ false → get_or grown to false ≡ true → LeadsBeyond edges grown number source
 leads_to_source edges grown number source to leads source_within to_within off on =
-    record { near = to; joined = back leads; reached = is_grown grown to to_within on; unreached = isnt_grown grown source source_within off }
+    record { near = to; joined = joins_back leads; reached = is_grown grown to to_within on; unreached = isnt_grown grown source source_within off }
 
 pub no_target : (edges : List Edge) (number one other : ℕ) → number < length edges → (get_or edges number no_edge).to ≡ None → Joins edges number one other → ⊥
 no_target edges number one other within is joined =

@@ -22,8 +22,8 @@ pub record LeavesCode (edges : List Edge) (number : ℕ) : Type 0 where
 
 -- the edge joins two blocks, whichever is named first
 pub data Joins (edges : List Edge) (number one other : ℕ) : Type 0 where
-  forth : LeadsTo edges number one other → Joins edges number one other
-  back : LeadsTo edges number other one → Joins edges number one other
+  joins_forth : LeadsTo edges number one other → Joins edges number one other
+  joins_back : LeadsTo edges number other one → Joins edges number one other
 
 -- greater weight first, then the lower number
 pub data RanksBefore (weights : List ℕ) (one other : ℕ) : Type 0 where

@@ -13,7 +13,8 @@ use Rattle.rv_code.proofs.LawsOfLookUps.{place_of-below}
 use Rattle.rv_code.proofs.LawsOfPlaces.{length-code_addresses}
 use Rattle.flow_graph.specs.declared.edge.Edge.{Edge}
 use Rattle.flow_graph.specs.Edges.{kind_by, is_taken_kind}
-use Rattle.flow_tree.specs.WitnessEdges.{Joins, forth, back, LeadsTo}
+use Rattle.flow_graph.proofs.LawsOfEdges.{taken_again}
+use Rattle.flow_tree.specs.WitnessEdges.{Joins, joins_forth, joins_back, LeadsTo}
 use Rattle.regen_path.specs.declared.arcs.Arc.{Arc}
 use Rattle.regen_path.specs.Walks.{ArcJoins}
 use Rattle.regen_path.specs.Walks as walks
@@ -53,10 +54,6 @@ place_within : {X : Type 0} (xs : List X) (k : ℕ) (x : X) → slice_get xs k �
 place_within [] k x is = absurd (cc is)
 place_within (y ∷ xs) zero x is = omega arith
 place_within (y ∷ xs) (suc k) x is = let rest = place_within xs k x is in omega (arith, rest)
-
-pub taken_by : (taken : Bool) → is_taken_kind (kind_by taken) ≡ taken
-taken_by true = refl
-taken_by false = refl
 
 -- what an edge is of
 pub record EdgeOf (stretches : List Extent) (words : List SchemaWord) (edge : Edge) : Type 0 where
@@ -163,8 +160,8 @@ module _ (words : List SchemaWord) (edges : List Edge) where
       ∙ ap (λ (from : ℕ). Some (from, Some arc.to)) (sym a.from)
 
   joins : (arc : Arc) (n : NumberOf words edges arc) (one other : ℕ) → ArcJoins arc one other → Joins edges n.number one other
-  joins arc n one other (walks.forth is) = forth (subst (λ (to : ℕ). LeadsTo edges n.number one to) is.1 (subst (λ (from : ℕ). LeadsTo edges n.number from arc.to) is.0 (leads arc n)))
-  joins arc n one other (walks.back is) = back (subst (λ (to : ℕ). LeadsTo edges n.number other to) is.1 (subst (λ (from : ℕ). LeadsTo edges n.number from arc.to) is.0 (leads arc n)))
+  joins arc n one other (walks.forth is) = joins_forth (subst (λ (to : ℕ). LeadsTo edges n.number one to) is.1 (subst (λ (from : ℕ). LeadsTo edges n.number from arc.to) is.0 (leads arc n)))
+  joins arc n one other (walks.back is) = joins_back (subst (λ (to : ℕ). LeadsTo edges n.number other to) is.1 (subst (λ (from : ℕ). LeadsTo edges n.number from arc.to) is.0 (leads arc n)))
 
   -- arcs of edges of the same number are the same
   same_arc : (one other : Arc) (n : NumberOf words edges one) (m : NumberOf words edges other) → m.number ≡ n.number → other ≡ one
@@ -230,9 +227,9 @@ module _ (parts : SchemaParts) (valid : IsSchema parts) where
       let m = known other is_other in
       let place : k.e.place ≡ m.e.place = sym (k.a.from ∙ k.p.source) ∙ from ∙ m.a.from ∙ m.p.source in
       let taken : k.e.taken ≡ m.e.taken =
-      sym (ap is_taken_kind k.p.kind ∙ taken_by k.e.taken)
+      sym (ap is_taken_kind k.p.kind ∙ taken_again k.e.taken)
       ∙ kind_same (is_taken_kind k.n.edge.kind) (is_taken_kind m.n.edge.kind) (sym k.a.kind ∙ kind ∙ m.a.kind)
-      ∙ ap is_taken_kind m.p.kind ∙ taken_by m.e.taken
+      ∙ ap is_taken_kind m.p.kind ∙ taken_again m.e.taken
       in
       let word : k.e.word ≡ m.e.word = (let both : Some k.e.word ≡ Some m.e.word = sym k.e.at ∙ ap (slice_get parts.words) place ∙ m.e.at in cc) in
       let address : k.e.address ≡ m.e.address = (let both : Some k.e.address ≡ Some m.e.address = sym k.e.stands ∙ ap (address_of parts.stretches) place ∙ m.e.stands in cc) in

@@ -3,15 +3,15 @@ use Rattle.std.proofs.Common.{inl, inr, List, [], ◌∷◌, ◌++◌, Result, O
 use Rattle.std.specs.Prelude.{OnOk, OnErr}
 use Rattle.ae_ports.specs.declared.failed.Failed.{Failed}
 use Rattle.ae_nums.specs.declared.item.Item.{Item}
-use Rattle.ae_nums.specs.Taken.{Takes}
+use Rattle.ae_nums.specs.Taken.{TakesItem}
 use Rattle.rv_machine.specs.Outcomes.{TookFront}
 
 module _ (first second : Item) (took took_second took_both : List Item → Type 0) (join : (xs ys : List Item) → took xs → took_second ys → took_both (xs ++ ys)) (before : took (first ∷ [])) where
-  pub all_of_two : (result : Result Unit Failed) → Takes took_second second result → OnOk result (took_both (first ∷ second ∷ []))
+  pub all_of_two : (result : Result Unit Failed) → TakesItem took_second second result → OnOk result (took_both (first ∷ second ∷ []))
   all_of_two (Ok done) takes = join (first ∷ []) (second ∷ []) before takes
   all_of_two (Err failed) takes = tt
 
-  pub front_of_two : (result : Result Unit Failed) → Takes took_second second result → OnErr result (TookFront took_both (first ∷ second ∷ []))
+  pub front_of_two : (result : Result Unit Failed) → TakesItem took_second second result → OnErr result (TookFront took_both (first ∷ second ∷ []))
   front_of_two (Ok done) takes = tt
   front_of_two (Err failed) takes = elim takes [
     | inl none ↦ (1, omega arith, join (first ∷ []) [] before none)

@@ -15,6 +15,7 @@ use Rattle.rv_code.specs.Ways.{falls}
 use Rattle.rv_code.proofs.LawsOfLookUps.{address_of-place_of}
 use Rattle.flow_graph.specs.declared.edge.Edge.{Edge}
 use Rattle.flow_graph.specs.Edges.{kind_by, is_taken_kind}
+use Rattle.flow_graph.proofs.LawsOfEdges.{taken_again}
 use Rattle.regen_path.specs.declared.arcs.Arc.{Arc}
 use Rattle.regen_path.specs.declared.arcs.Ways.{Ways}
 use Rattle.regen_path.specs.Arcs.{AreWays, way_from}
@@ -33,7 +34,7 @@ use Rattle.regen_walk.specs.Inner.Met.{IsMet, IsSpot}
 use Rattle.regen_walk.specs.Labels.{Label, Quiet}
 use Rattle.regen_walk.specs.Moves.{Moved, goes_on, is_kept, move_of, names_edge, placed_at}
 use Rattle.regen_walk.specs.Walks.{behind_items, walk_from}
-use Rattle.regen_walk.proofs.ForestArcs.{known, kind_same, taken_by}
+use Rattle.regen_walk.proofs.ForestArcs.{known, kind_same}
 use Rattle.regen_walk.proofs.Steps.{move_before, move_after, quiet_some}
 use Rattle.regen_walk.proofs.WordsMet.{place_within}
 
@@ -81,7 +82,7 @@ module _ (parts : SchemaParts) (valid : IsSchema parts) (spot : Spot) (there : I
       let k = known parts valid arc ((are.has arc).1 way) in
       let source : k.e.place ≡ spot.place = sym (k.a.from ∙ k.p.source) in
       let same_taken : k.e.taken ≡ taken =
-      sym (ap is_taken_kind k.p.kind ∙ taken_by k.e.taken) ∙ kind_same (is_taken_kind k.n.edge.kind) taken (sym k.a.kind)
+      sym (ap is_taken_kind k.p.kind ∙ taken_again k.e.taken) ∙ kind_same (is_taken_kind k.n.edge.kind) taken (sym k.a.kind)
       in
       let word : k.e.word ≡ met.word = (let both : Some k.e.word ≡ Some met.word = sym k.e.at ∙ ap (slice_get parts.words) source ∙ word_there in cc) in
       let address : k.e.address ≡ spot.address =
@@ -90,7 +91,7 @@ module _ (parts : SchemaParts) (valid : IsSchema parts) (spot : Spot) (there : I
       let class : k.e.class ≡ met.class = (let both : Some k.e.class ≡ Some met.class = sym k.e.named ∙ ap (λ (w : SchemaWord). class_in w.flags) word ∙ is.named in cc) in
       let first = free_by parts.stretches k.e.taken k.e.class k.e.word k.e.place k.e.address k.n.edge (is_set (witness_mark k.e.taken) k.e.word.flags) (way_of k.e.taken k.e.class k.e.word.raw k.e.address) refl refl k.e.is in
       let gate = quiet_by (option_map_or (word_goes_quietly (is_taken_kind k.n.edge.kind)) (slice_get parts.words k.n.edge.source) false) _ arc k.n.is in
-      let taken_is : is_taken_kind k.n.edge.kind ≡ taken = ap is_taken_kind k.p.kind ∙ taken_by k.e.taken ∙ same_taken in
+      let taken_is : is_taken_kind k.n.edge.kind ≡ taken = ap is_taken_kind k.p.kind ∙ taken_again k.e.taken ∙ same_taken in
       record {
         quiet =
             ap (λ (o : Option Class). option_map_or (goes_quietly (is_kept met.word) taken) o false) (sym is.named)

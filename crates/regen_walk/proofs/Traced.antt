@@ -21,7 +21,7 @@ use Rattle.regen_walk.specs.declared.met.Spot.{Spot}
 use Rattle.regen_walk.specs.FreeArcs.{goes_quietly, kind_number, quiet_arc, quiet_arcs, quiet_arcs_among, word_goes_quietly}
 use Rattle.regen_walk.specs.Inner.Met.{IsMet, IsSpot}
 use Rattle.regen_walk.specs.Moves.{is_kept}
-use Rattle.regen_walk.proofs.ForestArcs.{taken_by}
+use Rattle.flow_graph.proofs.LawsOfEdges.{taken_again}
 use Rattle.regen_walk.proofs.Passing.{QuietStep, word_there}
 use Rattle.regen_walk.proofs.WordsMet.{place_within}
 
@@ -91,7 +91,7 @@ module _ (parts : SchemaParts) (valid : IsSchema parts) (spot : Spot) (there : I
 
   arc_made : (taken : Bool) (place : ℕ) (q : QuietStep parts spot.address met taken place) → quiet_arc parts.words (edge_to taken q.target) ≡ Some (arc_to taken place)
   arc_made taken place q =
-      ap (λ (t : Bool). cond (option_map_or (word_goes_quietly t) (slice_get parts.words spot.place) false) (option_map (arc_to t) (place_of parts.stretches q.target)) None) (taken_by taken)
+      ap (λ (t : Bool). cond (option_map_or (word_goes_quietly t) (slice_get parts.words spot.place) false) (option_map (arc_to t) (place_of parts.stretches q.target)) None) (taken_again taken)
       ∙ ap (λ (o : Option SchemaWord). cond (option_map_or (word_goes_quietly taken) o false) (option_map (arc_to taken) (place_of parts.stretches q.target)) None) at_place
       ∙ ap (λ (o : Option Class). cond (option_map_or (goes_quietly (is_kept met.word) taken) o false) (option_map (arc_to taken) (place_of parts.stretches q.target)) None) is.named
       ∙ ap (λ b. cond b (option_map (arc_to taken) (place_of parts.stretches q.target)) None) q.quiet

@@ -16,7 +16,7 @@ use Rattle.rv_code.specs.declared.instr.RegOp.TheVariants.{Add, Sub, Sll, Slt, S
 use Rattle.rv_code.specs.Fields.{field, opcode, rd, funct3, rs1, rs2, funct7, imm_i, imm_s, imm_b, imm_u, imm_j}
 use Rattle.rv_code.specs.Numbers.{IsWord, unsigned}
 use Rattle.rv_code.specs.Table.{meaning_of}
-use Rattle.rv_code.specs.Levels.{branch_op, load_op, store_op, imm_op, shift_op, base_op, other_op, product_op, reg_op, chosen, jalr_meaning, branch_meaning, load_meaning, store_meaning, shift_meaning, op_imm_meaning, op_meaning, fence_meaning, system_meaning, meaning_in_levels}
+use Rattle.rv_code.specs.Levels.{branch_op, load_op, store_op, imm_op, shift_op, base_op, other_op, product_op, reg_op, by_op, jalr_meaning, branch_meaning, load_meaning, store_meaning, shift_meaning, op_imm_meaning, op_meaning, fence_meaning, system_meaning, meaning_in_levels}
 use Rattle.rv_code.specs.Encoding.{r_word, i_word, s_word, b_word, u_word, j_word, branch_funct3, load_funct3, store_funct3, op_funct3, op_funct7, op_imm_word, word_of, IsBelow, FitsOp, Fits}
 use Rattle.rv_code.proofs.Levels.{meaning_of-levels}
 use Rattle.rv_code.proofs.WordFields.{r_word-of, i_word-of, s_word-of, number_b, b_word-of, number_b-even, number_b-below, u_word-of, imm_u-whole, number_j, j_word-of, number_j-even, number_j-below, turn_i, turn_b, turn_j, unsigned-sign_extended, sign_extended-IsBelow}
@@ -145,7 +145,7 @@ shift_op_numbers f g op found =
     λ found. absurd (cc)
 
 chosen_cases : {Op : Type 0} (P : Instr → Type 0) (otherwise : Instr) (made : Op → Instr) (found : Option Op)
-    → P otherwise → ((op : Op) → found ≡ Some op → P (made op)) → P (chosen otherwise made found)
+    → P otherwise → ((op : Op) → found ≡ Some op → P (made op)) → P (by_op otherwise made found)
 chosen_cases P otherwise made None none some = none
 chosen_cases P otherwise made (Some op) none some = some op refl
 

@@ -16,7 +16,7 @@ use Rattle.rv_code.specs.declared.instr.RegOp.TheVariants.{Add, Sub, Sll, Slt, S
 use Rattle.rv_code.specs.Fields.{field, opcode, rd, funct3, rs1, rs2, funct7, imm_i, imm_s, imm_b, imm_u, imm_j}
 use Rattle.rv_code.specs.Numbers.{IsWord, sign_extended, unsigned}
 use Rattle.rv_code.specs.Table.{meaning_of}
-use Rattle.rv_code.specs.Levels.{branch_op, load_op, store_op, imm_op, shift_op, reg_op, chosen, jalr_meaning, branch_meaning, load_meaning, store_meaning, shift_meaning, op_imm_meaning, op_meaning, fence_meaning, system_meaning}
+use Rattle.rv_code.specs.Levels.{branch_op, load_op, store_op, imm_op, shift_op, reg_op, by_op, jalr_meaning, branch_meaning, load_meaning, store_meaning, shift_meaning, op_imm_meaning, op_meaning, fence_meaning, system_meaning}
 use Rattle.rv_code.specs.Encoding.{r_word, i_word, s_word, b_word, u_word, j_word, branch_funct3, load_funct3, store_funct3, op_funct3, op_funct7, op_imm_word, word_of, IsBelow, Fits}
 use Rattle.rv_code.proofs.Levels.{meaning_of-levels}
 use Rattle.rv_code.proofs.WordFields.{r_word-HasFields, i_word-number, i_word-HasFields, s_word-HasFields, s_word-number, b_word-HasFields, b_word-number, u_word-fields, j_word-fields, turn_i, turn_b, turn_j, sign_extended-unsigned}
@@ -40,8 +40,8 @@ at_opcode o word =
 means : (o word : ℕ) → word < 2 ^ 32 → opcode word ≡ o → meaning_of word ≡ at_opcode o word
 means o word fits is = meaning_of-levels word fits ∙ subst (λ n. at_opcode (opcode word) word ≡ at_opcode n word) is refl
 
-is_chosen : {Op : Type 0} (otherwise : Instr) (made : Op → Instr) (found : Option Op) (op : Op) → found ≡ Some op → chosen otherwise made found ≡ made op
-is_chosen otherwise made found op is = ap (chosen otherwise made) is
+is_chosen : {Op : Type 0} (otherwise : Instr) (made : Op → Instr) (found : Option Op) (op : Op) → found ≡ Some op → by_op otherwise made found ≡ made op
+is_chosen otherwise made found op is = ap (by_op otherwise made) is
 
 -- the operations by their numbers
 
@@ -185,7 +185,7 @@ means_shift op f g d a n none is small narrow register source below =
     let at : meaning_of word ≡ op_imm_meaning word = means 0x13 word fields.fits fields.the_opcode in
     let passed : imm_op (funct3 word) ≡ None = ap imm_op fields.the_funct3 ∙ none in
     let found : shift_op (funct3 word) (funct7 word) ≡ Some op = ap (λ n. shift_op n (funct7 word)) fields.the_funct3 ∙ (ap (shift_op f) fields.the_funct7 ∙ is) in
-    at ∙ (ap (chosen (shift_meaning word) (λ op. OpImm op (rd word) (rs1 word) (imm_i word))) passed
+    at ∙ (ap (by_op (shift_meaning word) (λ op. OpImm op (rd word) (rs1 word) (imm_i word))) passed
     ∙ (is_chosen (Bad word) (λ op. OpImm op (rd word) (rs1 word) (pos (rs2 word))) (shift_op (funct3 word) (funct7 word)) op found
     ∙ (ap (λ n. OpImm op n (rs1 word) (pos (rs2 word))) fields.the_rd
     ∙ (ap (λ n. OpImm op d n (pos (rs2 word))) fields.the_rs1 ∙ ap (λ n. OpImm op d a (pos n)) fields.the_rs2))))

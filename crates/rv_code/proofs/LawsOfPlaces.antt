@@ -81,7 +81,7 @@ is_code-Contains extents address runs is = is_code-by_starts extents address (st
 pub Contains-is_code : (extents : List Extent) (address : ℕ) → AreCodeExtents extents → Contains (code_addresses extents) address → is_code extents address ≡ true
 Contains-is_code extents address runs within = by_starts-is_code extents address (starts_aligned extents runs.each) within
 
-Rises-lower : (low high : ℕ) (xs : List ℕ) → low ≤ high → Rises high xs → Rises low xs
+pub Rises-lower : (low high : ℕ) (xs : List ℕ) → low ≤ high → Rises high xs → Rises low xs
 Rises-lower low high [] below rises = tt
 Rises-lower low high (x ∷ xs) below rises = (omega (arith, rises.0), rises.1)
 
@@ -307,10 +307,10 @@ extents_at-AreCodeExtents addresses rise aligned =
     record { each = runs.each; rise = runs.rise }
 
 -- a region of an image ends within the address space, and so does each range
-region_fits : (has_note : Bool) (region : Region) → IsRegion has_note region → region_end region ≤ 2 ^ 32
+pub region_fits : (has_note : Bool) (region : Region) → IsRegion has_note region → region_end region ≤ 2 ^ 32
 region_fits has_note region is = elim is.allowed [ inl below ↦ omega (arith, below) | inr above ↦ above.2 ]
 
-at_place : (P : Region → Type 0) (regions : List Region) → AllByRecursion P regions → (place : ℕ) (other : Region) → place < length regions → P (get_or regions place other)
+pub at_place : (P : Region → Type 0) (regions : List Region) → AllByRecursion P regions → (place : ℕ) (other : Region) → place < length regions → P (get_or regions place other)
 at_place P [] all place other inside = absurd (omega arith)
 at_place P (region ∷ regions) all zero other inside = all.0
 at_place P (region ∷ regions) all (suc place) other inside = at_place P regions all.1 place other (omega arith)

@@ -9,7 +9,7 @@ use Rattle.rv_code.specs.Fields.{opcode, rd, funct3, rs1, rs2, funct7}
 use Rattle.rv_code.specs.Table.{Form, Field, Entry, value_in, instruction_table, agrees, read_as, meaning_by, meaning_of}
 use Rattle.rv_code.specs.Table.Form.{OfLui, OfAuipc, OfJal, OfJalr, OfBranch, OfLoad, OfStore, OfOpImm, OfShift, OfOp, OfFence}
 use Rattle.rv_code.specs.Table.Field.{Opcode, Rd, Funct3, Rs1, Rs2, Funct7}
-use Rattle.rv_code.specs.Levels.{branch_op, load_op, store_op, imm_op, shift_op, reg_op, chosen, meaning_in_levels, system_meaning}
+use Rattle.rv_code.specs.Levels.{branch_op, load_op, store_op, imm_op, shift_op, reg_op, by_op, meaning_in_levels, system_meaning}
 
 -- The fields of a word are variables below, so that tests of numerals compute: o is its opcode, d its rd, f its funct3,
 -- a its rs1, b its rs2 and g its funct7.
@@ -32,7 +32,7 @@ abbrev by_table : (o d f a b g : ℕ) → (Form → Instr) → Instr → Instr
 by_table o d f a b g made otherwise = read_by (fields_of o d f a b g) made otherwise instruction_table
 
 chosen-cond : {Op : Type 0} (otherwise : Instr) (made : Op → Instr) (test : Bool) (x y : Option Op)
-    → chosen otherwise made (cond test x y) ≡ cond test (chosen otherwise made x) (chosen otherwise made y)
+    → by_op otherwise made (cond test x y) ≡ cond test (by_op otherwise made x) (by_op otherwise made y)
 chosen-cond otherwise made true x y = refl
 chosen-cond otherwise made false x y = refl
 
@@ -51,15 +51,15 @@ at_jalr : (d f a b g : ℕ) (made : Form → Instr) (otherwise : Instr)
 at_jalr d f a b g made otherwise = simp and-true
 
 at_branch : (d f a b g : ℕ) (made : Form → Instr) (otherwise : Instr)
-    → by_table 0x63 d f a b g made otherwise ≡ chosen otherwise (λ op. made (OfBranch op)) (branch_op f)
+    → by_table 0x63 d f a b g made otherwise ≡ by_op otherwise (λ op. made (OfBranch op)) (branch_op f)
 at_branch d f a b g made otherwise = simp (and-true, chosen-cond)
 
 at_load : (d f a b g : ℕ) (made : Form → Instr) (otherwise : Instr)
-    → by_table 0x03 d f a b g made otherwise ≡ chosen otherwise (λ op. made (OfLoad op)) (load_op f)
+    → by_table 0x03 d f a b g made otherwise ≡ by_op otherwise (λ op. made (OfLoad op)) (load_op f)
 at_load d f a b g made otherwise = simp (and-true, chosen-cond)
 
 at_store : (d f a b g : ℕ) (made : Form → Instr) (otherwise : Instr)
-    → by_table 0x23 d f a b g made otherwise ≡ chosen otherwise (λ op. made (OfStore op)) (store_op f)
+    → by_table 0x23 d f a b g made otherwise ≡ by_op otherwise (λ op. made (OfStore op)) (store_op f)
 at_store d f a b g made otherwise = simp (and-true, chosen-cond)
 
 at_fence : (d f a b g : ℕ) (made : Form → Instr) (otherwise : Instr)
@@ -74,7 +74,7 @@ split n k P here elsewhere =
 abbrev OpImmLevels : (d f a b g : ℕ) (made : Form → Instr) (otherwise : Instr) → Type 0
 OpImmLevels d f a b g made otherwise =
     by_table 0x13 d f a b g made otherwise
-    ≡ chosen (chosen otherwise (λ op. made (OfShift op)) (shift_op f g)) (λ op. made (OfOpImm op)) (imm_op f)
+    ≡ by_op (by_op otherwise (λ op. made (OfShift op)) (shift_op f g)) (λ op. made (OfOpImm op)) (imm_op f)
 
 at_op_imm : (d f a b g : ℕ) (made : Form → Instr) (otherwise : Instr) → OpImmLevels d f a b g made otherwise
 at_op_imm d f a b g made otherwise =
@@ -84,7 +84,7 @@ at_op_imm d f a b g made otherwise =
 
 abbrev OpLevels : (d f a b g : ℕ) (made : Form → Instr) (otherwise : Instr) → Type 0
 OpLevels d f a b g made otherwise =
-    by_table 0x33 d f a b g made otherwise ≡ chosen otherwise (λ op. made (OfOp op)) (reg_op f g)
+    by_table 0x33 d f a b g made otherwise ≡ by_op otherwise (λ op. made (OfOp op)) (reg_op f g)
 
 at_op : (d f a b g : ℕ) (made : Form → Instr) (otherwise : Instr) → OpLevels d f a b g made otherwise
 at_op d f a b g made otherwise =
@@ -151,12 +151,12 @@ by_levels o f g made system otherwise =
     else (if o == 0x17 then made OfAuipc
     else (if o == 0x6f then made OfJal
     else (if o == 0x67 then cond (eqb f 0) (made OfJalr) otherwise
-    else (if o == 0x63 then chosen otherwise (λ op. made (OfBranch op)) (branch_op f)
-    else (if o == 0x03 then chosen otherwise (λ op. made (OfLoad op)) (load_op f)
-    else (if o == 0x23 then chosen otherwise (λ op. made (OfStore op)) (store_op f)
+    else (if o == 0x63 then by_op otherwise (λ op. made (OfBranch op)) (branch_op f)
+    else (if o == 0x03 then by_op otherwise (λ op. made (OfLoad op)) (load_op f)
+    else (if o == 0x23 then by_op otherwise (λ op. made (OfStore op)) (store_op f)
     else (if o == 0x13
-    then chosen (chosen otherwise (λ op. made (OfShift op)) (shift_op f g)) (λ op. made (OfOpImm op)) (imm_op f)
-    else (if o == 0x33 then chosen otherwise (λ op. made (OfOp op)) (reg_op f g)
+    then by_op (by_op otherwise (λ op. made (OfShift op)) (shift_op f g)) (λ op. made (OfOpImm op)) (imm_op f)
+    else (if o == 0x33 then by_op otherwise (λ op. made (OfOp op)) (reg_op f g)
     else (if o == 0x0f then cond (eqb f 0) (made OfFence) otherwise
     else (if o == 0x73 then system else otherwise))))))))))
 

@@ -95,9 +95,9 @@ reg_op funct3 funct7 =
     else (if funct7 == 0x01 then product_op funct3 else None))
 
 -- what is made of an operation, where there is one
-abbrev pub chosen : {Op : Type 0} → Instr → (Op → Instr) → Option Op → Instr
-chosen otherwise made (Some op) = made op
-chosen otherwise made None = otherwise
+abbrev pub by_op : {Op : Type 0} → Instr → (Op → Instr) → Option Op → Instr
+by_op otherwise made (Some op) = made op
+by_op otherwise made None = otherwise
 
 -- the meanings of the words of one opcode
 
@@ -105,25 +105,25 @@ abbrev pub jalr_meaning : ℕ → Instr
 jalr_meaning word = if funct3 word == 0 then Jalr (rd word) (rs1 word) (imm_i word) else Bad word
 
 abbrev pub branch_meaning : ℕ → Instr
-branch_meaning word = chosen (Bad word) (λ op. Branch op (rs1 word) (rs2 word) (imm_b word)) (branch_op (funct3 word))
+branch_meaning word = by_op (Bad word) (λ op. Branch op (rs1 word) (rs2 word) (imm_b word)) (branch_op (funct3 word))
 
 abbrev pub load_meaning : ℕ → Instr
-load_meaning word = chosen (Bad word) (λ op. Load op (rd word) (rs1 word) (imm_i word)) (load_op (funct3 word))
+load_meaning word = by_op (Bad word) (λ op. Load op (rd word) (rs1 word) (imm_i word)) (load_op (funct3 word))
 
 abbrev pub store_meaning : ℕ → Instr
-store_meaning word = chosen (Bad word) (λ op. Store op (rs1 word) (rs2 word) (imm_s word)) (store_op (funct3 word))
+store_meaning word = by_op (Bad word) (λ op. Store op (rs1 word) (rs2 word) (imm_s word)) (store_op (funct3 word))
 
 abbrev pub shift_meaning : ℕ → Instr
 shift_meaning word =
-    chosen (Bad word) (λ op. OpImm op (rd word) (rs1 word) (pos (rs2 word))) (shift_op (funct3 word) (funct7 word))
+    by_op (Bad word) (λ op. OpImm op (rd word) (rs1 word) (pos (rs2 word))) (shift_op (funct3 word) (funct7 word))
 
 abbrev pub op_imm_meaning : ℕ → Instr
 op_imm_meaning word =
-    chosen (shift_meaning word) (λ op. OpImm op (rd word) (rs1 word) (imm_i word)) (imm_op (funct3 word))
+    by_op (shift_meaning word) (λ op. OpImm op (rd word) (rs1 word) (imm_i word)) (imm_op (funct3 word))
 
 abbrev pub op_meaning : ℕ → Instr
 op_meaning word =
-    chosen (Bad word) (λ op. Op op (rd word) (rs1 word) (rs2 word)) (reg_op (funct3 word) (funct7 word))
+    by_op (Bad word) (λ op. Op op (rd word) (rs1 word) (rs2 word)) (reg_op (funct3 word) (funct7 word))
 
 abbrev pub fence_meaning : ℕ → Instr
 fence_meaning word = if funct3 word == 0 then Fence word else Bad word

@@ -18,7 +18,7 @@ use Rattle.rv_machine.specs.declared.seen.Step.{Step}
 use Rattle.rv_machine.specs.Step.{StepOutcome, EndedWith, after_fetch, carried_out, fetched, step_of}
 use Rattle.rv_machine.specs.Held.{Held, Outside, fresh, program_in, state_of}
 use Rattle.rv_machine.specs.Outcomes.{Steps, access_behind, access_of, nothing_seen, seen_in, seen_of}
-use Rattle.rv_machine.specs.Ports.{Told, HasPassed, Passes}
+use Rattle.rv_machine.specs.Ports.{Told, HasPassed, PassesOn}
 use Rattle.rv_machine.specs.Inner.Advance.{Stops, Acts, Advances, GoesOn, StepsTo, at, made_at, made_by, step_with}
 use Rattle.rv_machine.specs.Inner.Decoded.{decoded_at, word_in_memory}
 use Rattle.rv_machine.proofs.Passing.{nothing, nothing_passed, appends_front}
@@ -204,7 +204,7 @@ stepped before after now told told_now (Err fault) bytes tells broke same =
 
 -- whatever a step answers, some bytes passed
 pub advances_pass : (outcome : Outside → StepOutcome) (before : Held) (told : Told) (result : Result Step MachineFault) (now : Held) (told_now : Told)
-    → Advances outcome before told result now told_now → Passes told told_now
+    → Advances outcome before told result now told_now → PassesOn told told_now
 advances_pass outcome before told (Ok (Step.Went seen)) now told_now went = (went.passed, went.ports)
 advances_pass outcome before told (Ok (Step.Ended ending seen)) now told_now stops = (nothing, subst (λ (t : Told). HasPassed told t nothing) (sym stops.ports) (nothing_passed told))
 advances_pass outcome before told (Err fault) now told_now broke = (broke.passed, broke.ports)

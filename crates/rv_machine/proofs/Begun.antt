@@ -13,22 +13,15 @@ use Rattle.rv_code.specs.Addresses.{stack_start, stack_length}
 use Rattle.rv_code.specs.Code.{is_word_of, is_code, extent_end, extent_of, extents_of}
 use Rattle.rv_code.specs.Image.{region_end, IsRegion, IsRange, IsImage}
 use Rattle.rv_code.specs.Numbers.{IsByte, IsWord}
+use Rattle.rv_code.specs.declared.limits.TheConstants.{FIRST_STACK_POINTER}
+use Rattle.rv_code.proofs.LawsOfPlaces.{at_place, region_fits}
 use Rattle.rv_machine.specs.Laws.{IsCell, BeginsInRanges}
 use Rattle.rv_machine.specs.Start.{first_registers}
 use Rattle.rv_memory.specs.Stretches.{MappedStretch, stack, stretch_of, stretches_of, cells_from, cells_of, cells_in}
 use Rattle.rv_memory.proofs.LawsOfStart.{memory_begins}
 use Rattle.rv_machine.proofs.Ranges.{AreCells, all_of_both, zeros_are_bytes, words-set}
 
--- a region of an image ends within the address space
-region_fits : (has_note : Bool) (region : Region) → IsRegion has_note region → region_end region ≤ 2 ^ 32
-region_fits has_note region is = elim is.allowed [ inl below ↦ omega (arith, below) | inr above ↦ above.2 ]
-
 -- a code word lies below 2^32
-at_place : (P : Region → Type 0) (regions : List Region) → AllByRecursion P regions → (place : ℕ) (other : Region) → place < length regions → P (get_or regions place other)
-at_place P [] all place other inside = absurd (omega arith)
-at_place P (region ∷ regions) all zero other inside = all.0
-at_place P (region ∷ regions) all (suc place) other inside = at_place P regions all.1 place other (omega arith)
-
 range_fits : (has_note : Bool) (regions : List Region) (range : Range) → AllByRecursion (IsRegion has_note) regions → IsRange regions range → extent_end (extent_of range) ≤ 2 ^ 32
 range_fits has_note regions range all is =
     let held = is.held in
@@ -101,13 +94,13 @@ zeros_are_words (suc count) = (omega arith, zeros_are_words count)
 
 first_are_words : AllByRecursion IsWord first_registers
 unfolding first_registers
-first_are_words = words-set (replicate 32 0) 2 0x7fffffc0 (zeros_are_words 32) (omega arith)
+first_are_words = words-set (replicate 32 0) 2 FIRST_STACK_POINTER (zeros_are_words 32) (omega arith)
 
 first_count : length first_registers ≡ 32
 unfolding first_registers
 first_count = refl
 
-first_zero : get_or first_registers 0 0 ≡ 0
+pub first_zero : get_or first_registers 0 0 ≡ 0
 unfolding first_registers
 first_zero = refl
 

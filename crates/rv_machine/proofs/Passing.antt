@@ -3,10 +3,11 @@ use Rattle.std.proofs.Common.{◌≡◌, ℕ, ◌+◌, List, [], ◌++◌, lengt
 use Rattle.std.proofs.lemmas.List.{append-nil, take_at}
 use Rattle.std.specs.Io.KnownBytes.{prepend_known, append_known}
 use Rattle.ae_ports.specs.Content.{Consumes, Appends, AppendsFront}
+use Rattle.ae_ports.proofs.LawsOfContent.{Appends-behind}
 use Rattle.rv_machine.specs.Laws.{IsFrontOf}
 use Rattle.rv_machine.specs.State.{State}
 use Rattle.rv_machine.specs.Held.{Outside}
-use Rattle.rv_machine.specs.Ports.{Told, Passed, HasPassed, Passes}
+use Rattle.rv_machine.specs.Ports.{Told, Passed, HasPassed, PassesOn}
 use Rattle.rv_machine.specs.Inner.Advance.{Follows, GivenBefore}
 
 abbrev pub nothing : Passed
@@ -46,23 +47,16 @@ pub prepend-both : (first second : List ℕ) (known : Option (List ℕ)) → pre
 prepend-both first second None = refl
 prepend-both first second (Some bytes) = ap Some (sym (append_assoc first second bytes))
 
-pub append-both : (known : Option (List ℕ)) (first second : List ℕ) → append_known (append_known known first) second ≡ append_known known (first ++ second)
-append-both None first second = refl
-append-both (Some bytes) first second = ap Some (append_assoc bytes first second)
-
 consumes_both : (one two three : Option (List ℕ)) (first second : List ℕ) → Consumes one two first → Consumes two three second → Consumes one three (first ++ second)
 consumes_both one two three first second f g = f ∙ ap (λ known. prepend_known first known) g ∙ prepend-both first second three
-
-appends_both : (one two three : Option (List ℕ)) (first second : List ℕ) → Appends one two first → Appends two three second → Appends one three (first ++ second)
-appends_both one two three first second f g = g ∙ ap (λ known. append_known known second) f ∙ append-both one first second
 
 pub passed_both : (one two three : Told) (first second : Passed) → HasPassed one two first → HasPassed two three second → HasPassed one three (both first second)
 passed_both one two three first second f g =
     record {
       input = consumes_both one.input two.input three.input first.taken second.taken f.input g.input;
-      out = appends_both one.out two.out three.out first.out second.out f.out g.out;
-      err = appends_both one.err two.err three.err first.err second.err f.err g.err;
-      events = appends_both one.events two.events three.events first.events second.events f.events g.events;
+      out = Appends-behind one.out two.out three.out first.out second.out f.out g.out;
+      err = Appends-behind one.err two.err three.err first.err second.err f.err g.err;
+      events = Appends-behind one.events two.events three.events first.events second.events f.events g.events;
     }
 
 longer : (one two three first second : List ℕ) → two ≡ one ++ first → three ≡ two ++ second → three ≡ one ++ (first ++ second)
@@ -106,5 +100,5 @@ appends_front before now front whole appends is =
     let size : length whole ≡ length front + length is.0 = ap length is.1 ∙ length-append front is.0 in
     (length front, omega (arith, size), appends ∙ ap (λ xs. append_known before xs) (sym (ap (λ xs. take (length front) xs) is.1 ∙ take_at front is.0 (length front) refl)))
 
-pub pass_on : (one two three : Told) → Passes one two → Passes two three → Passes one three
+pub pass_on : (one two three : Told) → PassesOn one two → PassesOn two three → PassesOn one three
 pass_on one two three f g = (both f.0 g.0, passed_both one two three f.0 g.0 f.1 g.1)

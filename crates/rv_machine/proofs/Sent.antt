@@ -7,7 +7,7 @@ use Rattle.ae_ports.specs.Content.{Appends, AppendsFront}
 use Rattle.ae_ports.specs.declared.failed.Failed.{Failed}
 use Rattle.rv_code.specs.Numbers.{wrap}
 use Rattle.rv_memory.specs.Memory.{Cell, is_mapped, span, bytes_at, first_hole}
-use Rattle.rv_machine.proofs.Passing.{append-both}
+use Rattle.ae_ports.proofs.LawsOfContent.{append_known-append}
 use Rattle.rv_memory.proofs.LawsOfCells.{bytes_among, bytes_at-take, length-bytes_at, none_behind, found_here}
 
 -- a piece behind those that were sent
@@ -16,7 +16,7 @@ pub appends_piece : (before mid now : Option (List ℕ)) (all piece : List ℕ) 
 appends_piece before mid now all piece done count first is second =
     second
     ∙ (ap (λ (known : Option (List ℕ)). append_known known piece) first
-    ∙ (append-both before (take done all) piece
+    ∙ (append_known-append before (take done all) piece
     ∙ ap (λ (xs : List ℕ). append_known before xs) (ap (λ (xs : List ℕ). take done all ++ xs) is ∙ sym (take-add done count all))))
 
 -- a front of a piece behind those that were sent

@@ -57,5 +57,5 @@ pub record HasPassed (before now : Told) (passed : Passed) : Type 0 where
   pub events : Appends before.events now.events passed.events
 
 -- some bytes passed, and nothing else happened to what the ports tell
-abbrev pub Passes : (before now : Told) → Type 0
-Passes before now = (passed : Passed) × HasPassed before now passed
+abbrev pub PassesOn : (before now : Told) → Type 0
+PassesOn before now = (passed : Passed) × HasPassed before now passed

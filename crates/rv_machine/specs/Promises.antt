@@ -11,7 +11,7 @@ use Rattle.rv_machine.specs.declared.outcome.Outcome.TheVariants.{Spent}
 use Rattle.rv_machine.specs.declared.seen.Step.{Step}
 use Rattle.rv_machine.specs.Held.{Held, Outside, program_in, state_of}
 use Rattle.rv_machine.specs.Outcomes.{Steps, Runs, seen_in, seen_of, step_again, run_again, kept_by_step, kept_by_run}
-use Rattle.rv_machine.specs.Ports.{Told, Counts, Rises, HasCauses, Passes}
+use Rattle.rv_machine.specs.Ports.{Told, Counts, Rises, HasCauses, PassesOn}
 
 -- a fact about each of the four objects that a call is given
 pub record ForEach (one two three four : Type 0) : Type 0 where
@@ -34,7 +34,7 @@ pub record AnswersStep (before : Held) (told : Told) (faults : Counts) (result :
   -- whatever is told, the fetch and the access are those of that step
   pub seen : before.kept ≡ None → (outside : Outside) → IfOk result (λ step. seen_in step ≡ seen_of (program_in before) (state_of before outside))
   -- some bytes passed, and nothing else happened to what is told
-  pub passes : before.kept ≡ None → Passes told told_now
+  pub passes : before.kept ≡ None → PassesOn told told_now
   pub cause : before.kept ≡ None → HasCauses result faults faults_now
   pub keeps : before.kept ≡ None → now.kept ≡ kept_by_step result
   -- after an ending and after a fault
@@ -77,7 +77,7 @@ pub record AnswersRun (fuel : ℕ) (before : Held) (told : Told) (faults : Count
   -- where the input tells its bytes, it is the run from the machine's state on
   pub run : before.kept ≡ None → (bytes : List ℕ) → told.input ≡ Some bytes → Runs bytes fuel before told takes result now told_now
   pub took : before.kept ≡ None → IfOk result (λ _. (items : List Item) × takes items)
-  pub passes : before.kept ≡ None → Passes told told_now
+  pub passes : before.kept ≡ None → PassesOn told told_now
   pub cause : before.kept ≡ None → HasCauses result faults faults_now
   pub keeps : before.kept ≡ None → now.kept ≡ kept_by_run result
   -- After an ending and after a fault, whatever the fuel is, also 0: so only a machine that could go on answers that its

@@ -2,7 +2,8 @@ use Rattle.std.proofs.Common.{rules}
 use Rattle.flow_graph.specs.Edges.{edges_of}
 use Rattle.ae_print.specs.GraphText.{graph_text}
 use Rattle.ae_print.proofs.EdgeText.{all_paths}
-use Rattle.ae_print.proofs.Short.{front_written, front_finished, all_finished, failed_risen, on_error, on_success, same_at, later_at, risen_at, rest_at}
+use Rattle.ae_print.proofs.Short.{front_written, front_finished, all_finished, failed_risen, on_error, rest_at}
+use Rattle.ae_print.proofs.SomeFinished.{in_success, same_count, later_count, risen_count}
 use Rattle.ae_print.proofs.graph.append_graph.Goals as goal
 
 pub returns-in-Ok-clause-all : goal.returns-in-Ok-clause-all
@@ -33,7 +34,7 @@ returns-in-Ok-clause-served g c =
     let text = graph_text c.args.graph.now c.args.weights.now c.args.forest.now.witness paths.0 in
     let puts = c.write_graph-written.ensures paths.0 paths.1 in
     let written = front_written g.K.Sink.told g.K.Sink.faults g.K.Sink.same_rest _ _ _ text c.write_graph-written.result c.new-lines.ensures.begun puts in
-    on_success _ c.write_graph-written.result (same_at _ (g.K.Sink.faults c.finish.new.self.sink.now) _ _ (search rules) (c.in-Ok.ensures.finished _ written.front written.written).cause)
+    in_success _ c.write_graph-written.result (same_count _ (g.K.Sink.faults c.finish.new.self.sink.now) _ _ (search rules) (c.in-Ok.ensures.finished _ written.front written.written).cause)
 
 pub returns-in-Ok-clause-unfailed : goal.returns-in-Ok-clause-unfailed
 returns-in-Ok-clause-unfailed g c = λ _.
@@ -41,7 +42,7 @@ returns-in-Ok-clause-unfailed g c = λ _.
     let text = graph_text c.args.graph.now c.args.weights.now c.args.forest.now.witness paths.0 in
     let puts = c.write_graph-written.ensures paths.0 paths.1 in
     let written = front_written g.K.Sink.told g.K.Sink.faults g.K.Sink.same_rest _ _ _ text c.write_graph-written.result c.new-lines.ensures.begun puts in
-    same_at _ (g.K.Sink.faults c.finish.new.self.sink.now) _ _ (search rules) (c.in-Ok.ensures.finished _ written.front written.written).cause
+    same_count _ (g.K.Sink.faults c.finish.new.self.sink.now) _ _ (search rules) (c.in-Ok.ensures.finished _ written.front written.written).cause
 
 pub returns-in-Ok-clause-later : goal.returns-in-Ok-clause-later
 returns-in-Ok-clause-later g c =
@@ -49,7 +50,7 @@ returns-in-Ok-clause-later g c =
     let text = graph_text c.args.graph.now c.args.weights.now c.args.forest.now.witness paths.0 in
     let puts = c.write_graph-written.ensures paths.0 paths.1 in
     let written = front_written g.K.Sink.told g.K.Sink.faults g.K.Sink.same_rest _ _ _ text c.write_graph-written.result c.new-lines.ensures.begun puts in
-    later_at _ (g.K.Sink.faults c.finish.new.self.sink.now) _ _ (search rules) (c.in-Ok.ensures.finished _ written.front written.written).cause
+    later_count _ (g.K.Sink.faults c.finish.new.self.sink.now) _ _ (search rules) (c.in-Ok.ensures.finished _ written.front written.written).cause
 
 pub returns-in-Err-clause-front : goal.returns-in-Err-clause-front
 returns-in-Err-clause-front g c = λ path_of are.
@@ -64,7 +65,7 @@ returns-in-Err-clause-failed g c = λ _.
     let text = graph_text c.args.graph.now c.args.weights.now c.args.forest.now.witness paths.0 in
     let puts = c.write_graph-written.ensures paths.0 paths.1 in
     let written = front_written g.K.Sink.told g.K.Sink.faults g.K.Sink.same_rest _ _ _ text c.write_graph-written.result c.new-lines.ensures.begun puts in
-    risen_at _ (g.K.Sink.faults c.finish.new.self.sink.now) _ _ (search rules) (c.in-Err.ensures.finished _ written.front written.written).cause
+    risen_count _ (g.K.Sink.faults c.finish.new.self.sink.now) _ _ (search rules) (c.in-Err.ensures.finished _ written.front written.written).cause
 
 pub returns-in-Err-clause-later : goal.returns-in-Err-clause-later
 returns-in-Err-clause-later g c =
@@ -72,7 +73,7 @@ returns-in-Err-clause-later g c =
     let text = graph_text c.args.graph.now c.args.weights.now c.args.forest.now.witness paths.0 in
     let puts = c.write_graph-written.ensures paths.0 paths.1 in
     let written = front_written g.K.Sink.told g.K.Sink.faults g.K.Sink.same_rest _ _ _ text c.write_graph-written.result c.new-lines.ensures.begun puts in
-    later_at _ (g.K.Sink.faults c.finish.new.self.sink.now) _ _ (search rules) (c.in-Err.ensures.finished _ written.front written.written).cause
+    later_count _ (g.K.Sink.faults c.finish.new.self.sink.now) _ _ (search rules) (c.in-Err.ensures.finished _ written.front written.written).cause
 
 pub returns-in-Ok-clause-rest : goal.returns-in-Ok-clause-rest
 returns-in-Ok-clause-rest g c =

@@ -2,7 +2,7 @@ use Rattle.std.proofs.Common.{◌≤◌, get_or, sym, subst, arith}
 use Rattle.std.proofs.lemmas.List.{length-set}
 use Rattle.std.proofs.lemmas.Option.{slice_get_within}
 use Rattle.flow_tree.specs.declared.cells.Cell.{Cell}
-use Rattle.flow_tree.specs.WitnessEdges.{forth}
+use Rattle.flow_tree.specs.WitnessEdges.{joins_forth}
 use Rattle.flow_tree.proofs.LawsOfJoins.{Joins-IsUndirected, joins_within}
 use Rattle.flow_tree.proofs.Leaves.{no_cell, leaf_edge, leaf_far, far_read, far_count, far_sum, stripped}
 use Rattle.flow_tree.proofs.cells.strip.Goals as goal
@@ -10,12 +10,12 @@ use Rattle.flow_tree.proofs.cells.strip.Goals as goal
 pub bounds-edges-number : goal.bounds-edges-number
 bounds-edges-number c =
     let known = leaf_edge c.args.edges.now c.requires.cells.0 c.args.cells.now c.args.leaf c.requires.cells.1 c.requires.leaf in
-    joins_within c.args.edges.now (get_or c.args.cells.now c.args.leaf no_cell).sum known.from known.to (forth known.leads)
+    joins_within c.args.edges.now (get_or c.args.cells.now c.args.leaf no_cell).sum known.from known.to (joins_forth known.leads)
 
 pub offset_bounds-edges-number : goal.offset_bounds-edges-number
 offset_bounds-edges-number c =
     let known = leaf_edge c.args.edges.now c.requires.cells.0 c.args.cells.now c.args.leaf c.requires.cells.1 c.requires.leaf in
-    let within = joins_within c.args.edges.now (get_or c.args.cells.now c.args.leaf no_cell).sum known.from known.to (forth known.leads) in
+    let within = joins_within c.args.edges.now (get_or c.args.cells.now c.args.leaf no_cell).sum known.from known.to (joins_forth known.leads) in
     record { fits = omega (arith, within, c.requires.few) }
 
 pub bounds-cells-leaf-2 : goal.bounds-cells-leaf-2

@@ -6,7 +6,7 @@ use Rattle.std.specs.declared.vec.Vec.{Vec}
 use Rattle.flow_graph.specs.declared.block.Block.{Block}
 use Rattle.flow_graph.specs.declared.edge.Edge.{Edge}
 use Rattle.flow_graph.specs.Edges.{edges_of}
-use Rattle.flow_tree.specs.WitnessEdges.{LeavesCode, forth, AreGrown, CutsCycles, IsCertificate, IsTreePath, IsMarked, IsUnmarked}
+use Rattle.flow_tree.specs.WitnessEdges.{LeavesCode, joins_forth, AreGrown, CutsCycles, IsCertificate, IsTreePath, IsMarked, IsUnmarked}
 use Rattle.flow_tree.proofs.Certified.{grown_cuts, grown_joins, certified, none_needed}
 use Rattle.flow_tree.proofs.LawsOfJoins.{leaving_joins_none}
 use Rattle.flow_tree.proofs.Least.{both_marks}
@@ -29,7 +29,7 @@ tree_path-requires-clause-joined c =
     let now = subst (AreGrown c.edges_in-edges.result.now) (sym c.as_slice-witness.ensures) grown in
     let within : c.args.edge < length c.edges_in-edges.result.now = omega (arith, c.requires.edge, ap (length {A = Edge}) c.edges_in-edges.ensures.edges) in
     let leads = edge_leads c.edges_in-edges.result.now c.args.edge c.in-Some.to within c.in-Some.is in
-    grown_joins c.edges_in-edges.result.now c.as_slice-witness.result.now now c.args.edge (get_or c.edges_in-edges.result.now c.args.edge no_edge).source c.in-Some.to (forth leads)
+    grown_joins c.edges_in-edges.result.now c.as_slice-witness.result.now now c.args.edge (get_or c.edges_in-edges.result.now c.args.edge no_edge).source c.in-Some.to (joins_forth leads)
 
 pub returns-in-Some : goal.returns-in-Some
 returns-in-Some c =
@@ -64,5 +64,5 @@ returns-in_default c =
           let out = leaves_code c.edges_in-edges.result.now c.args.edge within w.in_default.is in
           none_needed (edges_of c.args.graph.now) c.args.forest.now.witness c.args.edge c.new.result.items c.new.ensures.items
           (λ from to marked leads. leaving_joins_none (edges_of c.args.graph.now) c.args.edge from to
-          (subst (λ (edges : List Edge). LeavesCode edges c.args.edge) c.edges_in-edges.ensures.edges out) (forth leads))
+          (subst (λ (edges : List Edge). LeavesCode edges c.args.edge) c.edges_in-edges.ensures.edges out) (joins_forth leads))
     ]

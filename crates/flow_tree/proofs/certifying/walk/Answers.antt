@@ -1,6 +1,6 @@
 use Rattle.std.proofs.Common.{◌++◌, ◌∷◌, [], ℕ, List, length, get_or, sym, ap, subst, arith, length-append}
 use Rattle.std.proofs.lemmas.Option.{slice_get_within}
-use Rattle.flow_tree.specs.WitnessEdges.{forth}
+use Rattle.flow_tree.specs.WitnessEdges.{joins_forth}
 use Rattle.flow_tree.specs.Inner.Walks.{IsWalked}
 use Rattle.flow_tree.proofs.Checked.{filled_remains}
 use Rattle.flow_tree.proofs.LawsOfJoins.{joins_within}
@@ -38,7 +38,7 @@ overflow_cast-cells c =
     let leaf = at_leaf c.args.edges.now c.args.witness.now c.loop-at.cells c.loop-at.path.items c.args.from c.loop-at.at c.args.to c.loop-at.invariant c.requires.cuts.no_cycle
     (λ edge one other joined. let within = c.requires.blocks edge one other joined in omega (arith, within, c.fill.auto.cells, c.settle_all.auto.cells, c.loop-at.auto.cells)) c.loop-at-test.true in
     let known = leaf_edge c.args.edges.now c.loop-at.invariant.rest c.loop-at.cells c.loop-at.at c.loop-at.invariant.held leaf in
-    let within = joins_within c.args.edges.now (get_or c.loop-at.cells c.loop-at.at no_cell).sum known.from known.to (forth known.leads) in
+    let within = joins_within c.args.edges.now (get_or c.loop-at.cells c.loop-at.at no_cell).sum known.from known.to (joins_forth known.leads) in
     record { fits = omega (arith, within, c.requires.few) }
 
 pub loop-at-preserved : goal.loop-at-preserved
