@@ -1,6 +1,6 @@
 //! A row's questions.
 use crate::lists::list_answer;
-use crate::records::{falls_answer, put_answer, records_answer};
+use crate::records::{count_answer, falls_answer, put_answer, records_answer};
 use crate::telling::split;
 use crate::written::file_answer;
 use row_form::not_understood;
@@ -18,6 +18,7 @@ pub fn answer(alloc: Global, bytes: &[u8], question: &str) -> io::Result<Vec<u8>
         "list" => list_answer(alloc, rest),
         "file" => file_answer(alloc, bytes, rest),
         "records" => records_answer(alloc, bytes, rest),
+        "count" => count_answer(alloc, bytes, rest),
         "put" => put_answer(alloc, rest),
         "falls" => falls_answer(alloc, rest),
         _ => Err(not_understood()),

@@ -24,6 +24,30 @@ pub fn records_answer(alloc: Global, file: &[u8], rest: &str) -> io::Result<Vec<
     Ok(answers(alloc, &mut source, count)?)
 }
 
+/// `SIZE`: how many records a reader gives of such a source, and why there are no more.
+pub fn count_answer(alloc: Global, file: &[u8], rest: &str) -> io::Result<Vec<u8>> {
+    let size = number(rest)? as usize;
+    if size == 0 {
+        return Err(not_understood());
+    }
+    let mut source = Pieces::new(file.to_vec(alloc)?, size);
+    let mut records = Records::start();
+    let count = count_of(&mut records, &mut source, file.len());
+    let mut text = format!(in alloc; "{count} ")?.into_bytes();
+    text.extend_from_slice(&next_text(alloc, &records.next(&TwoWords, &mut source))?)?;
+    Ok(text)
+}
+
+/// How many records are next, of so many at most.
+fn count_of(records: &mut Records, source: &mut Pieces, limit: usize) -> usize {
+    for count in 0..limit {
+        let Ok(Next::Whole { .. }) = records.next(&TwoWords, source) else {
+            return count;
+        };
+    }
+    limit
+}
+
 fn answers(alloc: Global, source: &mut Pieces, count: u64) -> Result<Vec<u8>, AllocError> {
     let mut records = Records::start();
     let mut text = Vec::new(alloc);
