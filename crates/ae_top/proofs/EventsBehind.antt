@@ -5,11 +5,12 @@ use Rattle.ae_ports.specs.Files.{Files, IsThere, SameFiles}
 use Rattle.schema_form.specs.SchemaParts.{SchemaParts}
 use Rattle.ae_top.specs.declared.event_files.NoEvents.{NoEvents}
 use Rattle.ae_top.specs.declared.event_files.EventFiles.{EventFiles}
+use Rattle.ae_top.specs.declared.event_files.Unread.{Unread}
 use Rattle.ae_top.specs.declared.schema_file.NoSchema.{NoSchema}
 use Rattle.ae_top.specs.declared.status.Status.{Status}
 use Rattle.ae_top.specs.EventFiles.{AreEventFiles, HasNoEvents, LacksEvents, no_events_by, status_without_events}
 use Rattle.ae_top.specs.Inner.Command.{Carries}
-use Rattle.ae_top.specs.Inner.EventFiles.{IsUnread}
+use Rattle.ae_top.specs.Inner.EventFiles.{no_events_after}
 use Rattle.ae_top.specs.SchemaFile.{LacksSchema}
 use Rattle.ae_top.specs.World.{World, Blames}
 use Rattle.ae_top.proofs.Blamed.{OfStore, blames_as, carries_of_store}
@@ -40,12 +41,21 @@ no_schema_blamed why is before now by blames =
     blames_as (why ≡ NoSchema.StoreFault) (is ≡ NoEvents.StoreFault) before now (λ at. by ∙ ap no_events_by at) (λ at. by_store why (sym by ∙ at)) blames
 
 -- the schema was read, and the event file wasn't
-pub no_bytes : (told : Option Files) (schema events : List ℕ) (why : NoEvents) → IsThere told events → LacksSchema told schema NoSchema.NoMemory → IsUnread why → LacksEvents told schema events why
-no_bytes told schema events NoEvents.MissingSchema there sized unread = absurd unread
-no_bytes told schema events NoEvents.MissingEvents there sized unread = absurd unread
-no_bytes told schema events NoEvents.StoreFault there sized unread = tt
-no_bytes told schema events (NoEvents.BadSchema fault) there sized unread = absurd unread
-no_bytes told schema events NoEvents.NoMemory there sized unread = (there, sized)
+unread : (told : Option Files) (schema events : List ℕ) (why : Unread) → IsThere told events → LacksSchema told schema NoSchema.NoMemory → LacksEvents told schema events (no_events_after why)
+unread told schema events Unread.StoreFault there short = tt
+unread told schema events Unread.NoMemory there short = (there, short)
+
+pub no_bytes : (told : Option Files) (schema events : List ℕ) (why : Unread) (is : NoEvents) → is ≡ no_events_after why → IsThere told events → LacksSchema told schema NoSchema.NoMemory
+    → LacksEvents told schema events is
+no_bytes told schema events why is by there short = subst (LacksEvents told schema events) (sym by) (unread told schema events why there short)
+
+store_unread : (why : Unread) → no_events_after why ≡ NoEvents.StoreFault → why ≡ Unread.StoreFault
+store_unread Unread.StoreFault is = refl
+store_unread Unread.NoMemory is = absurd (cc is)
+
+pub unread_blamed : (why : Unread) (is : NoEvents) (before now : ℕ) → is ≡ no_events_after why → Blames (why ≡ Unread.StoreFault) before now → Blames (is ≡ NoEvents.StoreFault) before now
+unread_blamed why is before now by blames =
+    blames_as (why ≡ Unread.StoreFault) (is ≡ NoEvents.StoreFault) before now (λ at. by ∙ ap no_events_after at) (λ at. store_unread why (sym by ∙ at)) blames
 
 -- behind a call that changed no file
 module _ (before now : Option Files) (schema events : List ℕ) (same : SameFiles before now) where

@@ -14,7 +14,7 @@ use Rattle.ae_top.specs.declared.schema_file.NoSchema.{NoSchema}
 use Rattle.ae_top.specs.declared.status.Status.{Status}
 use Rattle.ae_top.specs.Inner.Command.{Carries}
 use Rattle.ae_top.specs.Inputs.{IsAbsent, IsNotRead}
-use Rattle.ae_top.specs.SchemaFile.{HasNoSchema, IsNoSchema, IsSchemaIn, LacksSchema, no_schema_by, status_without_schema}
+use Rattle.ae_top.specs.SchemaFile.{HasNoSchema, IsSchemaIn, LacksSchema, no_schema_by, status_without_schema}
 use Rattle.ae_top.specs.World.{World, Blames, BlamesDevices}
 use Rattle.ae_top.proofs.Blamed.{no_schema_blames, schema_unused}
 use Rattle.ae_top.proofs.ToldBehind.{absent_before, bytes_before}
@@ -28,24 +28,18 @@ refused_long bytes long =
 pub too_long_schema : (told : Option Files) (name : List ℕ) → IsNotRead told name SCHEMA_LIMIT NotRead.TooLong → LacksSchema told name (NoSchema.Bad TooLarge)
 too_long_schema told name is = (is.0, is.1, by_form (refused_long is.0 is.2))
 
--- why bytes give no schema, by the fault of reading them
-pub none_by : (bytes : List ℕ) (fault : SchemaFault) → length bytes ≤ SCHEMA_LIMIT → ((fault ≡ SchemaFault.NoMemory → ⊥) → RefusedBy bytes fault) → IsNoSchema bytes (no_schema_by fault)
-none_by bytes NotSchema small refused = refused (λ is. absurd (cc is))
-none_by bytes (BadEntry offset) small refused = refused (λ is. absurd (cc is))
-none_by bytes (NotAForest edge) small refused = refused (λ is. absurd (cc is))
-none_by bytes TooLarge small refused = refused (λ is. absurd (cc is))
-none_by bytes SchemaFault.NoMemory small refused = small
+-- why there is none in a file with these bytes, by the fault of reading them
+lacks_by : (told : Option Files) (name bytes : List ℕ) (fault : SchemaFault) → HasBytes told name bytes → length bytes ≤ SCHEMA_LIMIT → ((fault ≡ SchemaFault.NoMemory → ⊥) → RefusedBy bytes fault)
+    → LacksSchema told name (no_schema_by fault)
+lacks_by told name bytes NotSchema has small refused = (bytes, has, refused (λ is. absurd (cc is)))
+lacks_by told name bytes (BadEntry offset) has small refused = (bytes, has, refused (λ is. absurd (cc is)))
+lacks_by told name bytes (NotAForest edge) has small refused = (bytes, has, refused (λ is. absurd (cc is)))
+lacks_by told name bytes TooLarge has small refused = (bytes, has, refused (λ is. absurd (cc is)))
+lacks_by told name bytes SchemaFault.NoMemory has small refused = (bytes, has, small)
 
--- why there is none in a file with these bytes
-lacks_by : (told : Option Files) (name bytes : List ℕ) (why : NoSchema) → HasBytes told name bytes → IsNoSchema bytes why → LacksSchema told name why
-lacks_by told name bytes NoSchema.Missing has none = absurd none
-lacks_by told name bytes NoSchema.StoreFault has none = tt
-lacks_by told name bytes NoSchema.NoMemory has none = (bytes, has, none)
-lacks_by told name bytes (NoSchema.Bad fault) has none = (bytes, has, none)
-
-pub lacks_in : {T : Type 0} (result : Result T NoSchema) (told : Option Files) (name bytes : List ℕ) → HasBytes told name bytes → IfErr result (IsNoSchema bytes) → IfErr result (LacksSchema told name)
-lacks_in (Ok schema) told name bytes has none = tt
-lacks_in (Err why) told name bytes has none = lacks_by told name bytes why has none
+pub lacks_in : (told : Option Files) (name bytes : List ℕ) (fault : SchemaFault) (why : NoSchema) → why ≡ no_schema_by fault → HasBytes told name bytes → length bytes ≤ SCHEMA_LIMIT
+    → ((fault ≡ SchemaFault.NoMemory → ⊥) → RefusedBy bytes fault) → LacksSchema told name why
+lacks_in told name bytes fault why is has small refused = subst (LacksSchema told name) (sym is) (lacks_by told name bytes fault has small refused)
 
 lacks_before : (before now : Option Files) (name : List ℕ) (why : NoSchema) → SameFiles before now → LacksSchema now name why → LacksSchema before name why
 lacks_before before now name NoSchema.Missing same lacks = absent_before before now name same lacks

@@ -15,14 +15,7 @@ use Rattle.ae_top.specs.World.{World}
 abbrev pub IsSchemaIn : Option Files → (name : List ℕ) → SchemaParts → Type 0
 IsSchemaIn told name schema = (bytes : List ℕ) × HasBytes told name bytes × Spells bytes schema
 
--- why bytes give no schema; memory is never wanting for too many
-abbrev pub IsNoSchema : (bytes : List ℕ) → NoSchema → Type 0
-IsNoSchema bytes NoSchema.Missing = ⊥
-IsNoSchema bytes NoSchema.StoreFault = ⊥
-IsNoSchema bytes NoSchema.NoMemory = length bytes ≤ SCHEMA_LIMIT
-IsNoSchema bytes (NoSchema.Bad fault) = RefusedBy bytes fault
-
--- the same by the fault of reading them
+-- why bytes give no schema, by the fault of reading them
 abbrev pub no_schema_by : SchemaFault → NoSchema
 no_schema_by NotSchema = NoSchema.Bad NotSchema
 no_schema_by (BadEntry offset) = NoSchema.Bad (BadEntry offset)
@@ -30,12 +23,12 @@ no_schema_by (NotAForest edge) = NoSchema.Bad (NotAForest edge)
 no_schema_by TooLarge = NoSchema.Bad TooLarge
 no_schema_by SchemaFault.NoMemory = NoSchema.NoMemory
 
--- why there is no schema in a file of this name
+-- Why there is no schema in a file of this name. Memory is never wanting for a file that is too long.
 abbrev pub LacksSchema : Option Files → (name : List ℕ) → NoSchema → Type 0
 LacksSchema told name NoSchema.Missing = IsAbsent told name
 LacksSchema told name NoSchema.StoreFault = ⊤
-LacksSchema told name NoSchema.NoMemory = (bytes : List ℕ) × HasBytes told name bytes × IsNoSchema bytes NoSchema.NoMemory
-LacksSchema told name (NoSchema.Bad fault) = (bytes : List ℕ) × HasBytes told name bytes × IsNoSchema bytes (NoSchema.Bad fault)
+LacksSchema told name NoSchema.NoMemory = (bytes : List ℕ) × HasBytes told name bytes × (length bytes ≤ SCHEMA_LIMIT)
+LacksSchema told name (NoSchema.Bad fault) = (bytes : List ℕ) × HasBytes told name bytes × RefusedBy bytes fault
 
 -- the status that says why, where the file is the word at this place
 abbrev pub status_without_schema : NoSchema → (word : ℕ) → Status

@@ -2,7 +2,7 @@
 ghost use Rattle.std.specs.Prelude.{◌≡◌, Ok, Some, IfOk, IfErr, IsErrOf};
 ghost use Rattle.ae_ports.specs.Files.{HasBytes, SameFiles, TellsSize};
 ghost use Rattle.ae_top.specs.EventFiles.{AreEventFiles, LacksEvents, no_events_by, status_by, status_without_events};
-ghost use Rattle.ae_top.specs.Inner.EventFiles.{IsUnread};
+ghost use Rattle.ae_top.specs.Inner.EventFiles.{no_events_after};
 ghost use Rattle.ae_top.specs.World.{Blames};
 
 use crate::inputs::{NotRead, read_sized};
@@ -32,6 +32,14 @@ pub enum NoEvents {
     StoreFault,
     /// The bytes of the schema's file are refused.
     BadSchema(SchemaFault),
+    /// Memory was wanting.
+    NoMemory,
+}
+
+/// Why the bytes of an event file that is there aren't read.
+enum Unread {
+    /// The store failed.
+    StoreFault,
     /// Memory was wanting.
     NoMemory,
 }
@@ -73,24 +81,33 @@ fn no_events_by(why: NoSchema) -> NoEvents
     }
 }
 
+/// The same reason, where the event file isn't read.
+fn no_events_after(why: Unread) -> NoEvents
+    ensures { result ≡ no_events_after why }
+{
+    match why {
+        Unread::StoreFault => NoEvents::StoreFault,
+        Unread::NoMemory => NoEvents::NoMemory,
+    }
+}
+
 /// The bytes of the event file, which has this size.
 fn read_events<S: Store>(
     alloc: Global,
     events: &Word,
     size: u64,
     store: &mut S,
-) -> Result<Vec<u8>, NoEvents>
+) -> Result<Vec<u8>, Unread>
     requires size { TellsSize (S.told store.old) events.now (Ok (Some size)) }
     ensures bytes { IfOk result (λ bytes. HasBytes (S.told store.old) events.now bytes.items) }
-    ensures lacks { IfErr result IsUnread }
-    ensures blames { Blames (IsErrOf result NoEvents.StoreFault) (S.faults store.old) (S.faults store.new) }
+    ensures blames { Blames (IsErrOf result Unread.StoreFault) (S.faults store.old) (S.faults store.new) }
     ensures files { SameFiles (S.told store.old) (S.told store.new) }
     ensures rest { S.same_rest store.old store.new }
 {
     match read_sized(alloc, store, events, size, u64::MAX) {
         Ok(bytes) => Ok(bytes),
-        Err(NotRead::StoreFault) => Err(NoEvents::StoreFault),
-        Err(NotRead::TooLong | NotRead::NoMemory) => Err(NoEvents::NoMemory),
+        Err(NotRead::StoreFault) => Err(Unread::StoreFault),
+        Err(NotRead::TooLong | NotRead::NoMemory) => Err(Unread::NoMemory),
     }
 }
 
@@ -117,7 +134,7 @@ fn read_both<S: Store>(
     };
     match read_events(alloc, events, events_size, store) {
         Ok(events) => Ok(EventFiles { schema, events }),
-        Err(why) => Err(why),
+        Err(why) => Err(no_events_after(why)),
     }
 }
 

@@ -1,9 +1,8 @@
 //! The schema that a command works on.
-ghost use Rattle.std.specs.Prelude.{◌≡◌, ◌≤◌, Ok, Some, length, IfOk, IfErr, IsErrOf};
+ghost use Rattle.std.specs.Prelude.{◌≡◌, Ok, Some, IfOk, IfErr, IsErrOf};
 ghost use Rattle.ae_ports.specs.Files.{SameFiles, TellsSize};
-ghost use Rattle.schema_form.specs.Spells.{Spells};
 ghost use Rattle.ae_top.specs.Inner.EventFiles.{IsShortFile};
-ghost use Rattle.ae_top.specs.SchemaFile.{IsNoSchema, IsSchemaIn, LacksSchema, no_schema_by, status_without_schema};
+ghost use Rattle.ae_top.specs.SchemaFile.{IsSchemaIn, LacksSchema, no_schema_by, status_without_schema};
 ghost use Rattle.ae_top.specs.World.{Blames};
 
 use crate::Status;
@@ -50,18 +49,6 @@ fn no_schema_by(fault: SchemaFault) -> NoSchema
     }
 }
 
-/// The schema that bytes say, or why they say none.
-fn schema_in(alloc: Global, bytes: &[u8]) -> Result<Schema, NoSchema>
-    requires small { length bytes.now ≤ SCHEMA_LIMIT }
-    ensures spells { IfOk result (Spells bytes.now) }
-    ensures refused { IfErr result (IsNoSchema bytes.now) }
-{
-    match read_schema(alloc, bytes) {
-        Ok(schema) => Ok(schema),
-        Err(fault) => Err(no_schema_by(fault)),
-    }
-}
-
 /// The schema in a file of this size, or why there is none.
 pub fn read_schema_file<S: Store>(
     alloc: Global,
@@ -78,7 +65,10 @@ pub fn read_schema_file<S: Store>(
     ensures rest { S.same_rest store.old store.new }
 {
     match read_sized(alloc, store, name, size, SCHEMA_LIMIT as u64) {
-        Ok(bytes) => schema_in(alloc, &bytes),
+        Ok(bytes) => match read_schema(alloc, &bytes) {
+            Ok(schema) => Ok(schema),
+            Err(fault) => Err(no_schema_by(fault)),
+        },
         Err(NotRead::StoreFault) => Err(NoSchema::StoreFault),
         Err(NotRead::TooLong) => Err(NoSchema::Bad(SchemaFault::TooLarge)),
         Err(NotRead::NoMemory) => Err(NoSchema::NoMemory),
