@@ -7,6 +7,8 @@ use Rattle.ev_format.specs.declared.record.Record.{Record}
 use Rattle.ev_format.specs.declared.stop.Stop.{Stop}
 use Rattle.ev_format.specs.Reading.{BeginsWith, Reading, ReadsOne, ReadsTo, StopsWith, place_behind}
 use Rattle.ev_format.specs.Shapes.{ShapeView}
+-- there is one reading, and each list of records at the front of the bytes begins it
+pub use Rattle.ev_format.proofs.Unique.{one_reading, one_front, front_of_reading}
 
 -- what holds of the place where a reader stands
 pub at_place : (records : Result Place Halt) (place : Place) (P : Place → Type 0) → records ≡ Ok place → IfOk records P → P place

@@ -1,4 +1,4 @@
--- The bytes that are left at a place have one reading.
+-- The bytes that are left at a place have one reading, which begins with each list of records at their front.
 use Rattle.std.proofs.Common.{◌≡◌, ℕ, inl, inr, List, [], ◌∷◌, ◌++◌, length, take, refl, sym, ap, ◌∙◌, subst, arith, append_assoc, length-append}
 use Rattle.std.proofs.lemmas.List.{append_cancel_left, take_at}
 use Rattle.ev_format.specs.declared.place.Place.{Place}
@@ -7,11 +7,12 @@ use Rattle.ev_format.specs.declared.record.Record.{Record}
 use Rattle.ev_format.specs.declared.stop.Stop.{Stop}
 use Rattle.ev_format.specs.declared.stop.Stop.TheVariants.{Cut, Finished, OtherProgram, BadRecord}
 use Rattle.ev_format.specs.Inner.Bodies.{further_bytes}
-use Rattle.ev_format.specs.Reading.{header_before, place_behind, MayBeNext, IsBad, HeaderStops, RecordStops, EndStops, StopsWith, Reading}
+use Rattle.ev_format.specs.Reading.{header_before, place_behind, MayBeNext, IsBad, HeaderStops, RecordStops, EndStops, StopsWith, Reading, BeginsWith}
 use Rattle.ev_format.specs.Shapes.{ShapeView, IsShape, shape_header, HasRecord}
 use Rattle.ev_format.specs.Spelling.{first_word, kind_in, address_in, record_bytes}
 use Rattle.ev_format.proofs.Spelled.{same_record}
 use Rattle.ev_format.proofs.Words.{bytes_of-same}
+use Rattle.ev_format.specs.Laws.{HaveOneFront, HasFronts}
 
 -- a whole record doesn't begin with a bad word
 record_or_bad : (shape : ShapeView) (bytes : List ℕ) (rec : Record) (rest : List ℕ) → HasRecord shape rec → bytes ≡ record_bytes rec ++ rest → IsBad shape bytes → ⊥
@@ -101,20 +102,51 @@ next_or_stop shape Start bytes stop offset rec rest may front (inr stops) =
 next_or_stop shape (Within start) bytes stop offset rec rest may front stops = record_or_stop shape start bytes stop rec rest may.1 front stops
 next_or_stop shape (Ended start) bytes stop offset rec rest may front stops = absurd (cc (may.0))
 
+-- what is next is known by the bytes
+same_next : (shape : ShapeView) → IsShape shape → (place : Place) (bytes : List ℕ) (offset start : ℕ) (rec one : Record) (rest behind : List ℕ)
+    → MayBeNext shape place offset rec → bytes ≡ header_before shape place ++ record_bytes rec ++ rest
+    → MayBeNext shape place start one → bytes ≡ header_before shape place ++ record_bytes one ++ behind → (offset ≡ start) × (rec ≡ one) × (rest ≡ behind)
+same_next shape is place bytes offset start rec one rest behind may front also ahead =
+    let header = header_before shape place in
+    let fronts : header ++ (record_bytes rec ++ rest) ≡ header ++ (record_bytes one ++ behind) =
+    sym (append_assoc header (record_bytes rec) rest) ∙ (sym front ∙ (ahead ∙ append_assoc header (record_bytes one) behind)) in
+    let same = same_record shape rec one rest behind is may.1 also.1 (append_cancel_left header (record_bytes rec ++ rest) (record_bytes one ++ behind) fronts) in
+    (cc (may.0, also.0), same.0, same.1)
+
+-- and what holds behind it holds behind the same
+at_same : (P : Place → List ℕ → Type 0) (offset start : ℕ) (rec one : Record) (rest behind : List ℕ) → (offset ≡ start) × (rec ≡ one) × (rest ≡ behind)
+    → P (place_behind start one) behind → P (place_behind offset rec) rest
+at_same P offset start rec one rest behind same holds =
+    subst (λ (l : List ℕ). P (place_behind offset rec) l) (sym same.2)
+    (subst (λ (r : Record). P (place_behind offset r) behind) (sym same.1) (subst (λ (o : ℕ). P (place_behind o one) behind) (sym same.0) holds))
+
 pub one_reading : (shape : ShapeView) → IsShape shape → (place : Place) (bytes : List ℕ) (records others : List (ℕ × Record)) (stop other : Stop)
     → Reading shape place bytes records stop → Reading shape place bytes others other → (records ≡ others) × (stop ≡ other)
 one_reading shape is place bytes [] [] stop other read again = (refl, one_stop shape place bytes stop other read again)
 one_reading shape is place bytes [] ((offset, rec) ∷ others) stop other read again = absurd (next_or_stop shape place bytes stop offset rec again.0 again.1 again.2 read)
 one_reading shape is place bytes ((offset, rec) ∷ records) [] stop other read again = absurd (next_or_stop shape place bytes other offset rec read.0 read.1 read.2 again)
 one_reading shape is place bytes ((offset, rec) ∷ records) ((start, one) ∷ others) stop other read again =
-    let header = header_before shape place in
-    let fronts : header ++ (record_bytes rec ++ read.0) ≡ header ++ (record_bytes one ++ again.0) =
-    sym (append_assoc header (record_bytes rec) read.0) ∙ (sym read.2 ∙ (again.2 ∙ append_assoc header (record_bytes one) again.0)) in
-    let same = same_record shape rec one read.0 again.0 is read.1.1 again.1.1 (append_cancel_left header (record_bytes rec ++ read.0) (record_bytes one ++ again.0) fronts) in
-    let place_same : offset ≡ start = cc (read.1.0, again.1.0) in
-    let there : Reading shape (place_behind offset rec) read.0 others other =
-    subst (λ (l : List ℕ). Reading shape (place_behind offset rec) l others other) (sym same.1)
-    (subst (λ (r : Record). Reading shape (place_behind offset r) again.0 others other) (sym same.0)
-    (subst (λ (o : ℕ). Reading shape (place_behind o one) again.0 others other) (sym place_same) again.3)) in
+    let same = same_next shape is place bytes offset start rec one read.0 again.0 read.1 read.2 again.1 again.2 in
+    let there = at_same (λ (p : Place) (l : List ℕ). Reading shape p l others other) offset start rec one read.0 again.0 same again.3 in
     let more = one_reading shape is (place_behind offset rec) read.0 records others stop other read.3 there in
-    (cc (place_same, same.0, more.0), more.1)
+    (cc (same.0, same.1, more.0), more.1)
+
+pub one_front : (shape : ShapeView) → IsShape shape → HaveOneFront shape
+one_front shape is place bytes [] others begins also = inl (others, refl)
+one_front shape is place bytes (first ∷ records) [] begins also = inr (first ∷ records, refl)
+one_front shape is place bytes ((offset, rec) ∷ records) ((start, one) ∷ others) begins also =
+    let same = same_next shape is place bytes offset start rec one begins.0 also.0 begins.1 begins.2 also.1 also.2 in
+    let there = at_same (λ (p : Place) (l : List ℕ). BeginsWith shape p l others) offset start rec one begins.0 also.0 same also.3 in
+    elim (one_front shape is (place_behind offset rec) begins.0 records others begins.3 there) [
+      | inl more ↦ inl (more.0, cc (same.0, same.1, more.1))
+      | inr more ↦ inr (more.0, cc (same.0, same.1, more.1))
+    ]
+
+pub front_of_reading : (shape : ShapeView) → IsShape shape → HasFronts shape
+front_of_reading shape is place bytes records [] stop read begins = (records, refl)
+front_of_reading shape is place bytes [] ((start, one) ∷ others) stop read begins = absurd (next_or_stop shape place bytes stop start one begins.0 begins.1 begins.2 read)
+front_of_reading shape is place bytes ((offset, rec) ∷ records) ((start, one) ∷ others) stop read begins =
+    let same = same_next shape is place bytes offset start rec one read.0 begins.0 read.1 read.2 begins.1 begins.2 in
+    let there = at_same (λ (p : Place) (l : List ℕ). BeginsWith shape p l others) offset start rec one read.0 begins.0 same begins.3 in
+    let more = front_of_reading shape is (place_behind offset rec) read.0 records others stop read.3 there in
+    (more.0, cc (same.0, same.1, more.1))

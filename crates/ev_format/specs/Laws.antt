@@ -1,5 +1,5 @@
 -- What the format gives to those who write event files and read them.
-use Rattle.std.specs.Prelude.{◌≡◌, ℕ, List, [], ◌∷◌, ◌++◌}
+use Rattle.std.specs.Prelude.{◌≡◌, ◌⊎◌, ℕ, List, [], ◌∷◌, ◌++◌}
 use Rattle.std.specs.List.{AllByRecursion, flat_map}
 use Rattle.ev_format.specs.declared.kind.RecordKind.TheVariants as kinds
 use Rattle.ev_format.specs.declared.place.Place.{Place}
@@ -7,7 +7,7 @@ use Rattle.ev_format.specs.declared.place.Place.TheVariants.{Start}
 use Rattle.ev_format.specs.declared.record.Record.{Record}
 use Rattle.ev_format.specs.declared.stop.Stop.{Stop}
 use Rattle.ev_format.specs.declared.stop.Stop.TheVariants.{Finished}
-use Rattle.ev_format.specs.Reading.{Reading, offset_behind}
+use Rattle.ev_format.specs.Reading.{BeginsWith, Reading, offset_behind}
 use Rattle.ev_format.specs.Shapes.{ShapeView, HasRecord, shape_header}
 use Rattle.ev_format.specs.Spelling.{kind_in, record_bytes}
 
@@ -16,6 +16,18 @@ abbrev pub IsOnlyReading : ShapeView → Type 0
 IsOnlyReading shape =
     (place : Place) (bytes : List ℕ) (records others : List (ℕ × Record)) (stop other : Stop)
     → Reading shape place bytes records stop → Reading shape place bytes others other → (records ≡ others) × (stop ≡ other)
+
+-- Of two lists of records that stand at the front of the same bytes, one begins with the other.
+abbrev pub HaveOneFront : ShapeView → Type 0
+HaveOneFront shape =
+    (place : Place) (bytes : List ℕ) (records others : List (ℕ × Record)) → BeginsWith shape place bytes records → BeginsWith shape place bytes others
+    → ((more : List (ℕ × Record)) × (others ≡ records ++ more)) ⊎ ((more : List (ℕ × Record)) × (records ≡ others ++ more))
+
+-- a reading begins with each list of records that stand at the front of its bytes
+abbrev pub HasFronts : ShapeView → Type 0
+HasFronts shape =
+    (place : Place) (bytes : List ℕ) (records others : List (ℕ × Record)) (stop : Stop) → Reading shape place bytes records stop → BeginsWith shape place bytes others
+    → (more : List (ℕ × Record)) × (records ≡ others ++ more)
 
 -- two records with the same bytes at the front of the same bytes are the same
 abbrev pub HasOneSpelling : ShapeView → Type 0

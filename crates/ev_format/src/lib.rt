@@ -29,7 +29,10 @@ pub use body::value_count;
 pub use halt::Halt;
 pub use header::are_of_another;
 pub use kind::RecordKind;
-pub use laws::{a_reading_is_the_only_one, records_have_one_spelling, written_records_are_read};
+pub use laws::{
+    a_reading_begins_with_each_front, a_reading_is_the_only_one, one_front_begins_the_other,
+    records_have_one_spelling, written_records_are_read,
+};
 pub use next::{EventFault, Next};
 pub use place::Place;
 pub use put::put_record;

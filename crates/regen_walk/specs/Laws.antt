@@ -1,11 +1,13 @@
 -- Laws of walks: this project's own.
-use Rattle.std.specs.Prelude.{◌≡◌, Bool, List, [], ◌∷◌, ◌++◌}
+use Rattle.std.specs.Prelude.{◌≡◌, ℕ, Bool, List, [], ◌∷◌, ◌++◌}
 use Rattle.ae_nums.specs.declared.item.Item.{Item}
 use Rattle.ev_format.specs.declared.record.Record.{Record}
 use Rattle.schema_form.specs.SchemaParts.{SchemaParts}
 use Rattle.schema_form.specs.Valid.{IsSchema}
 use Rattle.regen_walk.specs.Labels.{Label, Quiet, Tell}
 use Rattle.regen_walk.specs.Walks.{AreItemsOf, Explains, IsExplained, IsShortest}
+use Rattle.regen_walk.specs.declared.replaying.Halted.{Halted}
+use Rattle.regen_walk.specs.Regenerated.{IsRegenerated}
 
 -- a way before these labels, or none of all where there are none
 abbrev pub quiet_before : (taken : Bool) → List Label → List Label
@@ -39,3 +41,9 @@ ExplainedHaveItems = (parts : SchemaParts) → IsSchema parts → (records : Lis
 -- a front of explained records is explained
 abbrev pub FrontsAreExplained : Type 0
 FrontsAreExplained = (parts : SchemaParts) (records more : List Record) → IsExplained parts (records ++ more) → IsExplained parts records
+
+-- bytes give back one list of items, and one reason why there are no more
+abbrev pub OneIsRegenerated : Type 0
+OneIsRegenerated =
+    (parts : SchemaParts) → IsSchema parts → (bytes : List ℕ) (one other : Halted) (items others : List Item) → IsRegenerated parts bytes one items → IsRegenerated parts bytes other others
+    → (one ≡ other) × (items ≡ others)

@@ -21,8 +21,9 @@ mod turn;
 mod walk;
 
 pub use laws::{
-    explained_records_have_one_list_of_items, fronts_of_explained_records_are_explained,
-    the_shortest_walk_ends_with_a_record, walks_with_the_same_records_are_one,
+    bytes_give_back_one_trace, explained_records_have_one_list_of_items,
+    fronts_of_explained_records_are_explained, the_shortest_walk_ends_with_a_record,
+    walks_with_the_same_records_are_one,
 };
 pub use replaying::{Halted, replay};
 pub use turn::{Turn, WalkFault};

@@ -10,6 +10,8 @@ use Rattle.schema_form.specs.declared.flags.TheConstants.{FALL_WITNESS, TAKEN_WI
 use Rattle.schema_form.specs.declared.word.SchemaWord.{SchemaWord}
 use Rattle.schema_form.specs.Flags.{class_in, class_number, is_set}
 use Rattle.schema_form.specs.OfImage.{IsSchemaWordOf}
+-- the shape of a schema is one
+pub use Rattle.schema_form.specs.scaffolding.Shapes.{schema_is_shape}
 use Rattle.schema_form.proofs.OwnWords.{made_class, made_fall, made_taken, made_kept}
 
 module _ (parts : CodeParts) (marks : List Bool) (address : ℕ) (word : SchemaWord) (is : IsSchemaWordOf parts marks address word) where
