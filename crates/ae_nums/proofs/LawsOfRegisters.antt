@@ -3,7 +3,7 @@ use Rattle.std.proofs.Common.{◌≡◌, ℕ, zero, suc, ◌+◌, ◌*◌, ◌%�
 use Rattle.std.specs.Prelude.{bit_and, filter}
 use Rattle.std.specs.Int.{bit_at, bit_not, trailing_zeros, w32}
 use Rattle.std.specs.List.{list_any, range_with_len}
-use Rattle.std.proofs.lemmas.Bool.{cases_eq, cases_lt, eq-eqb, eqb-true, ne_eqb}
+use Rattle.std.proofs.lemmas.Bool.{cases_eq, cases_lt, eq-eqb, eqb-true, ne_eqb, and_right}
 use Rattle.std.proofs.lemmas.Map.Views.{any-filter_same}
 use Rattle.std.proofs.lemmas.Nat.Bits.{bit_at-lt, bit_at_lowest, bit_at_and, bit_at_mask_inside, bit_at_above, bit_at-trailing_zeros, bit_at_clear_same, bit_at_clear_other, same_from_bits}
 use Rattle.rv_code.specs.Parts.{mask_of}
@@ -118,10 +118,6 @@ and_true : (b : Bool) → (b && true) ≡ b
 and_true true = refl
 and_true false = refl
 
-and_false : (b : Bool) → (b && false) ≡ false
-and_false true = refl
-and_false false = refl
-
 -- a mask is made again of its registers
 pub mask_of-registers_of : (mask : ℕ) → IsMask mask → mask_of (registers_of mask) ≡ mask
 unfolding registers_of
@@ -135,7 +131,7 @@ mask_of-registers_of mask is = same_from_bits (mask_of (registers_of mask)) mask
           ∙ one_or_none (bit_at mask (suc k)) (bit_at-lt mask (suc k))
       | inr above ↦
           bit_of-mask_of (registers_of mask) k
-          ∙ ap (λ b. cond b 1 0) (any_kept mask k ∙ ap (λ b. eqb (bit_at mask (suc k)) 1 && b) (range_none 1 31 (suc k) (omega arith)) ∙ and_false (eqb (bit_at mask (suc k)) 1))
+          ∙ ap (λ b. cond b 1 0) (any_kept mask k ∙ ap (λ b. eqb (bit_at mask (suc k)) 1 && b) (range_none 1 31 (suc k) (omega arith)) ∙ and_right (eqb (bit_at mask (suc k)) 1) false refl)
           ∙ sym (bit_at_above mask 32 (suc k) is.word above)
     ]
 

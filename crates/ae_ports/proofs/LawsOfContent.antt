@@ -1,9 +1,11 @@
--- Laws of bytes that are appended piece by piece. They have no code, and proofs of every crate may cite them.
-use Rattle.std.proofs.Common.{◌≡◌, ℕ, ◌+◌, ◌≤◌, List, [], ◌++◌, length, take, drop, Option, None, Some, refl, sym, ◌∙◌, ap, arith, append_assoc, length-append, length-drop}
+-- Laws of bytes that are appended, or read, piece by piece. They have no code, and proofs of every crate may cite them.
+use Rattle.std.proofs.Common.{◌≡◌, ℕ, ◌+◌, ◌≤◌, List, [], ◌++◌, length, take, drop, Option, None, Some, Result, refl, sym, ◌∙◌, ap, subst, arith, append_assoc, length-append, length-drop}
 use Rattle.std.proofs.Math.Seq.{take-add, take-append-add, take-length}
 use Rattle.std.proofs.lemmas.List.{append-nil, take-append-le}
-use Rattle.std.specs.Io.KnownBytes.{append_known}
-use Rattle.ae_ports.specs.Content.{Appends, AppendsFront}
+use Rattle.std.specs.Prelude.{OnErr}
+use Rattle.std.specs.Io.KnownBytes.{append_known, prepend_known}
+use Rattle.ae_ports.specs.declared.failed.Failed.{Failed}
+use Rattle.ae_ports.specs.Content.{Appends, AppendsFront, Consumes}
 
 pub append_known-nil : (known : Option (List ℕ)) → append_known known [] ≡ known
 append_known-nil None = refl
@@ -49,3 +51,20 @@ AppendsFront-behind before mid now first second one front = (
 pub AppendsFront-rest : (before mid now : Option (List ℕ)) (bytes : List ℕ) (sent : ℕ) → sent ≤ length bytes → Appends before mid (take sent bytes) → AppendsFront mid now (drop sent bytes) → AppendsFront before now bytes
 AppendsFront-rest before mid now bytes sent within one front =
     (sent + front.0, omega (arith, length-drop sent bytes, front.1), Appends-rest before mid now bytes sent front.0 one front.2)
+
+-- a front of a piece, where the sink has what it is said to have
+pub AppendsFront-at : (result : Result Unit Failed) (before now end : Option (List ℕ)) (bytes : List ℕ) → now ≡ end → OnErr result (AppendsFront before now bytes) → OnErr result (AppendsFront before end bytes)
+AppendsFront-at result before now end bytes is front = subst (λ (known : Option (List ℕ)). OnErr result (AppendsFront before known bytes)) is front
+
+pub prepend_known-append : (first second : List ℕ) (known : Option (List ℕ)) → prepend_known first (prepend_known second known) ≡ prepend_known (first ++ second) known
+prepend_known-append first second None = refl
+prepend_known-append first second (Some bytes) = ap Some (sym (append_assoc first second bytes))
+
+-- nothing is read of what is left
+pub Consumes-none : (known : Option (List ℕ)) → Consumes known known []
+Consumes-none None = refl
+Consumes-none (Some bytes) = refl
+
+-- a piece is read, and another behind it
+pub Consumes-behind : (before mid now : Option (List ℕ)) (first second : List ℕ) → Consumes before mid first → Consumes mid now second → Consumes before now (first ++ second)
+Consumes-behind before mid now first second one two = one ∙ ap (prepend_known first) two ∙ prepend_known-append first second now

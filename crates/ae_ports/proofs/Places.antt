@@ -7,13 +7,10 @@ use Rattle.std.proofs.lemmas.Bool.{cases_Bool}
 use Rattle.std.proofs.lemmas.Slice.Eq.{bytes_eq-Decides}
 use Rattle.ae_ports.specs.Named.{NamedFiles, file_named, place_named, put_file, grow_file}
 
-same_name : (one two : List ℕ) → bytes_eq one two ≡ true → one ≡ two
-same_name one two = (bytes_eq-Decides one two).0
-
 -- another name than that of a file
 other_name : (file name other : List ℕ) → bytes_eq file name ≡ true → other ≢ name → bytes_eq file other ≡ false
 other_name file name other is differs = elim (cases_Bool (bytes_eq file other)) [
-  | inl also ↦ absurd (differs (sym (same_name file other also) ∙ same_name file name is))
+  | inl also ↦ absurd (differs (sym ((bytes_eq-Decides file other).0 also) ∙ (bytes_eq-Decides file name).0 is))
   | inr not ↦ not
 ]
 

@@ -1,8 +1,6 @@
 -- The records of an event file, one behind another.
-use Rattle.std.proofs.Common.{◌≡◌, ℕ, List, [], ◌∷◌, ◌++◌, Result, Ok, Err, refl, sym, ap, ◌∙◌, subst, append-nil, append_assoc}
+use Rattle.std.proofs.Common.{◌≡◌, ℕ, List, [], ◌∷◌, ◌++◌, Result, Ok, Err, refl, sym, ap, ◌∙◌, append-nil, append_assoc}
 use Rattle.std.specs.Prelude.{IfErr}
-use Rattle.ae_ports.specs.declared.failed.Failed.{Failed}
-use Rattle.ae_ports.specs.Fault.{HasCause}
 use Rattle.ev_format.specs.declared.place.Place.{Place}
 use Rattle.ev_format.specs.declared.place.Place.TheVariants.{Start}
 use Rattle.ev_format.specs.declared.record.Record.{Record}
@@ -48,11 +46,3 @@ module _ (shape : ShapeView) where
 pub after_error : {T E : Type 0} (P : Type 0) (result : Result T E) → P → IfErr result (λ _. P)
 after_error P (Ok value) holds = tt
 after_error P (Err fault) holds = holds
-
--- a cause, said of the sink that is given back
-pub cause_of : {T : Type 0} (before now end : ℕ) (result : Result T Failed) → now ≡ end → HasCause before now result → HasCause before end result
-cause_of before now end result is cause = subst (λ (count : ℕ). HasCause before count result) is cause
-
--- a cause of one success is one of another
-pub cause_after : {T : Type 0} (before now : ℕ) (value : T) (done : Unit) → HasCause {T = Unit} before now (Ok done) → HasCause before now (Ok value)
-cause_after before now value done cause = record { later = cause.later; same = cause.same; risen = tt }

@@ -1,6 +1,5 @@
 mod EdgeText
 mod EventsRead
-mod GivenBack
 mod GraphTexts
 mod Joined
 mod Lines

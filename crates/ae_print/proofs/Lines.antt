@@ -1,5 +1,5 @@
 -- Lines behind lines, and what is written to a writer when it is said which texts are meant.
-use Rattle.std.proofs.Common.{◌≡◌, ℕ, ◌+◌, Bool, true, false, cond, List, [], ◌∷◌, ◌++◌, take, drop, Option, Some, Result, Ok, refl, sym, ap, ◌∙◌, subst, append-nil, append_assoc, take-append-drop}
+use Rattle.std.proofs.Common.{◌≡◌, ℕ, ◌+◌, Bool, List, [], ◌∷◌, ◌++◌, take, drop, Option, Some, Result, Ok, refl, sym, ap, ◌∙◌, subst, append-nil, append_assoc, take-append-drop}
 use Rattle.std.specs.Prelude.{filter, slice_get}
 use Rattle.std.proofs.lemmas.List.{take_more}
 use Rattle.std.proofs.lemmas.List.Elements.{filter-append}
@@ -57,13 +57,6 @@ one_more_kept p items place item is = ap (filter p) (one_more_item items place i
 
 pub all_kept : (p : ℕ → Bool) (items : List ℕ) (count : ℕ) → filter p (take count items) ++ filter p (drop count items) ≡ filter p items
 all_kept p items count = sym (filter-append p (take count items) (drop count items)) ∙ ap (filter p) (take-append-drop count items)
-
--- an item alone, where it is kept and where it isn't
-pub alone_kept : (p : ℕ → Bool) (item : ℕ) → p item ≡ true → filter p (item ∷ []) ≡ item ∷ []
-alone_kept p item is = ap (λ (b : Bool). cond b (item ∷ []) []) is
-
-pub alone_gone : (p : ℕ → Bool) (item : ℕ) → p item ≡ false → filter p (item ∷ []) ≡ []
-alone_gone p item is = ap (λ (b : Bool). cond b (item ∷ []) []) is
 
 module _ {K : Type 0} {told : K → Option (List ℕ)} {faults : K → ℕ} {same_rest : K → K → Type 0} where
   -- what was written, whatever the call answered

@@ -1,12 +1,11 @@
 -- The front of a file in a buffer grows by the piece that a get puts behind it.
-use Rattle.std.proofs.Common.{◌≡◌, ℕ, ◌+◌, ◌≤◌, List, ◌++◌, length, take, drop, Option, None, Some, Ok, Err, MatchOption, IfOk, Result, refl, sym, ◌∙◌, ap, subst, arith}
-use Rattle.std.proofs.Math.Seq.{take-add, take-append-add}
-use Rattle.std.proofs.lemmas.List.{take-take, length-take-le}
-use Rattle.std.proofs.lemmas.Slice.{take-put_mid}
+use Rattle.std.proofs.Common.{◌≡◌, ℕ, ◌+◌, ◌≤◌, List, ◌++◌, length, take, drop, Option, None, Some, Ok, Err, MatchOption, IfOk, Result, sym, subst}
+use Rattle.std.proofs.Math.Seq.{take-add}
 use Rattle.std.specs.Bool.{⊤}
 use borrow.Rule.Slice.PartMut.{put_mid}
 use Rattle.ae_ports.specs.declared.failed.Failed.{Failed}
 use Rattle.ae_ports.specs.Files.{Files, SameFiles, Copies, Gets}
+use Rattle.rv_code.proofs.LawsOfElements.{take_filled}
 use Rattle.ae_top.specs.Inner.Reading.{IsRead}
 
 -- what holds of the file of this name, where the files are told
@@ -29,17 +28,6 @@ of_file_both P Q R (Some files) name both p q =
     let each : (file : Option (List ℕ)) → Family file = elim [ None ↦ λ none _. none | Some all ↦ λ p q. both all p q ] in
     each (files name) p q
 
--- a piece put behind the front of a buffer
-take_more : (got more k : ℕ) (buf piece : List ℕ) → got ≤ length buf → more ≤ length piece → take (got + more) (put_mid got k buf piece) ≡ take got buf ++ take more piece
-take_more got more k buf piece room within =
-    let front : length (take got buf) ≡ got = length-take-le got buf room in
-    let all : take (got + length piece) (put_mid got k buf piece) ≡ take got buf ++ piece = take-put_mid got k buf piece _ refl room in
-    let part : take (got + more) (take (got + length piece) (put_mid got k buf piece)) ≡ take (got + more) (put_mid got k buf piece) =
-    take-take _ _ _ (omega arith) in
-    let cut : take (length (take got buf) + more) (take got buf ++ piece) ≡ take got buf ++ take more piece = take-append-add (take got buf) piece more in
-    let Family : ℕ → Type 0 = λ n. take (n + more) (take got buf ++ piece) ≡ take got buf ++ take more piece in
-    sym part ∙ ap (take (got + more)) all ∙ subst Family front cut
-
 -- a piece of the file, behind its front
 front_joins :
     (got more k : ℕ) (buf piece all : List ℕ) →
@@ -49,7 +37,7 @@ front_joins :
     Copies all got piece more →
     take (got + more) (put_mid got k buf piece) ≡ take (got + more) all
 front_joins got more k buf piece all room within was copies =
-    let joined = take_more got more k buf piece room within in
+    let joined = take_filled got more k buf piece room within in
     let whole : take (got + more) all ≡ take got all ++ take more (drop got all) = take-add got more all in
     let part = copies.front in
     cc (joined, whole, part)

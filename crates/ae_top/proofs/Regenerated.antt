@@ -4,7 +4,6 @@ use Rattle.std.specs.Prelude.{IfErr}
 use Rattle.std.specs.Io.KnownBytes.{append_known}
 use Rattle.ae_ports.specs.Content.{Appends, AppendsFront}
 use Rattle.ae_ports.specs.declared.failed.Failed.{Failed}
-use Rattle.ae_ports.specs.Fault.{HasCause}
 use Rattle.ae_ports.specs.Files.{Files, HasBytes, IsEmptyFile, SameOthers, file_told}
 use Rattle.ae_print.specs.SomeText.{AppendsFrontOfSome, AppendsSome}
 use Rattle.ev_format.specs.declared.place.Place.{Place}
@@ -72,10 +71,3 @@ pub front_at : {T : Type 0} (result : Result T Failed) (is_text : List ℕ → T
     → AppendsFrontOfSome is_text before now → IfErr result (λ _. AppendsFrontOfSome is_text before end)
 front_at (Ok value) is_text before now end is front = tt
 front_at (Err fault) is_text before now end is front = subst (AppendsFrontOfSome is_text before) is front
-
-pub cause_at : {T : Type 0} (before now end : ℕ) (result : Result T Failed) → now ≡ end → HasCause before now result → HasCause before end result
-cause_at before now end result is cause = subst (λ (count : ℕ). HasCause before count result) is cause
-
--- a cause of one success is one of another
-pub cause_after : {T : Type 0} (before now : ℕ) (value : T) (done : Unit) → HasCause {T = Unit} before now (Ok done) → HasCause before now (Ok value)
-cause_after before now value done cause = record { later = cause.later; same = cause.same; risen = tt }

@@ -4,18 +4,20 @@ use Rattle.std.specs.List.{All, AllByRecursion, Contains, filter, flat_map, rang
 use Rattle.std.specs.List.Sorted.{IsStrictlyIncreasing}
 use Rattle.std.proofs.lemmas.Bool.{and_parts, leb-true, eqb-true}
 use Rattle.std.proofs.lemmas.List.Elements.{All-from_recursion, All-contains_itself, All-weaker, Contains-append_left, Contains-append_right, recursion_from_All}
-use Rattle.rv_code.proofs.LawsOfLists.{rising-IsStrictlyIncreasing, Contains-from_rising}
-use Rattle.elf_raw.specs.declared.section.RawSection.{RawSection}
-use Rattle.elf_raw.specs.declared.segment.RawSegment.{RawSegment}
-use Rattle.elf_raw.specs.Sections.{sections_of}
 use Rattle.rv_code.specs.declared.extent.Extent.{Extent}
 use Rattle.rv_code.specs.Code.{extent_end, is_code}
 use Rattle.rv_code.specs.Places.{words_of, code_addresses, IsCodeExtent, AreCodeExtents}
+use Rattle.rv_code.proofs.LawsOfLists.{rising-IsStrictlyIncreasing, Contains-from_rising}
 use Rattle.rv_code.proofs.LawsOfPlaces.{is_word_of-Contains, is_code-Contains, Contains-is_code, code_addresses-extents_at, extents_at-AreCodeExtents}
+use Rattle.rv_code.proofs.LawsOfTests.{same_answers}
+use Rattle.rv_code.proofs.LawsOfElements.{Contains_any, any_Contains}
+use Rattle.elf_raw.specs.declared.section.RawSection.{RawSection}
+use Rattle.elf_raw.specs.declared.segment.RawSegment.{RawSegment}
+use Rattle.elf_raw.specs.Sections.{sections_of}
 use Rattle.elf_image.specs.CodeWords.{code_load, lies_in, is_code_section, words_in, code_words, is_code_word, extents_in}
-use Rattle.elf_image.proofs.Joined.{stands, same_answers}
+use Rattle.elf_image.proofs.Joined.{stands}
 use Rattle.elf_image.proofs.WordsIn.{word_below}
-use Rattle.elf_image.proofs.Within.{Contains-from_filter, passes-from_filter, Contains-from_flat_map, Contains-from_range, any-from_Contains, Contains-from_any}
+use Rattle.elf_image.proofs.Within.{Contains-from_filter, passes-from_filter, Contains-from_flat_map, Contains-from_range}
 
 -- a word lies in what the load has in the file
 pub record IsWordIn (load : RawSegment) (address : ℕ) : Type 0 where
@@ -97,11 +99,11 @@ extents_in-is_code bytes address =
     let runs = extents_in-AreCodeExtents bytes in
     same_answers (is_code (extents_in bytes) address) (is_code_word bytes address)
     (λ is.
-    any-from_Contains (code_words bytes) address
+    Contains_any (code_words bytes) address
     (subst (λ words. Contains words address) (extents_in-words bytes) (is_code-Contains (extents_in bytes) address runs is)))
     (λ is.
     Contains-is_code (extents_in bytes) address runs
-    (subst (λ words. Contains words address) (sym (extents_in-words bytes)) (Contains-from_any (code_words bytes) address is)))
+    (subst (λ words. Contains words address) (sym (extents_in-words bytes)) (any_Contains (code_words bytes) address is)))
 
 -- there are as many
 pub extents_in-count : (bytes : List ℕ) → length (code_addresses (extents_in bytes)) ≡ length (code_words bytes)

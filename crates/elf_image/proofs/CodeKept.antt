@@ -1,12 +1,10 @@
 -- What an image that has a file's code words has of it: ranges that lie in the load of code, and names and named addresses
 -- that are code words.
-use Rattle.std.proofs.Common.{◌≡◌, ℕ, zero, suc, ◌+◌, ◌-◌, ◌*◌, ◌/◌, ◌%◌, ◌<◌, ◌≤◌, true, false, eqb, List, [], ◌∷◌, ◌++◌, length, get_or, take, drop, map, None, sym, refl, ap, ◌∙◌, subst, inl, inr, arith}
-use Rattle.std.specs.Prelude.{not, ◌&&◌, nat_lt}
+use Rattle.std.proofs.Common.{◌≡◌, ℕ, zero, suc, ◌+◌, ◌-◌, ◌*◌, ◌/◌, ◌%◌, ◌<◌, ◌≤◌, true, eqb, List, [], ◌∷◌, ◌++◌, length, get_or, take, drop, map, None, sym, refl, ap, ◌∙◌, subst, arith}
 use Rattle.std.specs.Bool.{IsTrue}
 use Rattle.std.specs.List.{All, AllByRecursion, Contains, filter, flat_map, range_with_len}
 use Rattle.std.specs.List.Sorted.{IsStrictlyIncreasing}
-use Rattle.std.proofs.lemmas.Bool.{cases_eq, and_parts, and_left, and_right, eq-eqb, le-ltb}
-use Rattle.std.proofs.lemmas.Bool.Decides.{nat_tests}
+use Rattle.std.proofs.lemmas.Bool.{and_parts}
 use Rattle.std.proofs.lemmas.List.{drop-drop, drop-take, take-take, length-drop, length-map}
 use Rattle.std.proofs.lemmas.List.Elements.{All-contains_itself, All-get_or, All-map, All-weaker, filter_passes, recursion_from_All}
 use Rattle.std.proofs.lemmas.Simd.{map-map}

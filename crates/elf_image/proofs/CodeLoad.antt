@@ -1,10 +1,9 @@
 -- The program header that loads code, in a file of whose program headers none offends.
-use Rattle.std.proofs.Common.{◌≡◌, ℕ, zero, suc, ◌+◌, ◌^◌, ◌<◌, ◌≤◌, Bool, true, false, cond, List, [], ◌∷◌, length, get_or, map, None, refl, sym, ap, ◌∙◌, inl, inr, subst, arith}
-use Rattle.std.specs.Prelude.{◌⊎◌, not, ◌&&◌, ◌==◌, nat_lt}
+use Rattle.std.proofs.Common.{◌≡◌, ℕ, ◌+◌, ◌^◌, ◌<◌, ◌≤◌, Bool, true, false, List, length, get_or, map, None, refl, sym, ap, ◌∙◌, inl, inr, arith}
+use Rattle.std.specs.Prelude.{◌⊎◌}
 use Rattle.std.specs.Bool.{IsTrue}
 use Rattle.std.specs.List.{Contains, filter, list_any, position_or_len}
-use Rattle.std.proofs.lemmas.Bool.{cases_Bool, cases_lt, and_parts}
-use Rattle.std.proofs.lemmas.Bool.Decides.{nat_tests}
+use Rattle.std.proofs.lemmas.Bool.{cases_lt, and_parts}
 use Rattle.std.proofs.lemmas.List.{get_or-map, length-map}
 use Rattle.std.proofs.lemmas.List.Elements.{All-contains}
 use Rattle.std.proofs.lemmas.List.Folds.{Any-from_list_any}
@@ -18,6 +17,7 @@ use Rattle.elf_raw.proofs.LawsOfPieces.{passes-within}
 use Rattle.rv_code.specs.declared.image.Region.{Region}
 use Rattle.rv_code.specs.Addresses.{stack_start, tracer_start}
 use Rattle.rv_code.proofs.LawsOfLists.{ordered-IsPermutation}
+use Rattle.rv_code.proofs.LawsOfElements.{filter_Contains}
 use Rattle.elf_image.specs.CodeWords.{code_load}
 use Rattle.elf_image.specs.Loads.{is_load, is_code_load, has_note, load_end, piece_of, bad_program_header, region_of, regions_of}
 use Rattle.elf_image.proofs.GoodLoads.{good}
@@ -34,18 +34,6 @@ first_within p xs any =
           let holds : p (get_or xs k x) ≡ true = ap p here ∙ passes in
           absurd (cc)
       | inr not_before ↦ omega arith
-    ]
-
--- what passes a test is among those that do
-Contains-filter : {X : Type 0} (p : X → Bool) (xs : List X) (x : X) → Contains xs x → p x ≡ true → Contains (filter p xs) x
-Contains-filter p [] x (k, inside, here) passes = absurd (omega arith)
-Contains-filter p (y ∷ ys) x (zero, inside, here) passes =
-    subst (λ b. Contains (cond b (y ∷ filter p ys) (filter p ys)) x) (sym (ap p here ∙ passes)) (0, omega arith, here)
-Contains-filter p (y ∷ ys) x (suc k, inside, here) passes =
-    let (j, within, there) = Contains-filter p ys x (k, omega arith, here) passes in
-    elim (cases_Bool (p y)) [
-      | inl first ↦ subst (λ b. Contains (cond b (y ∷ filter p ys) (filter p ys)) x) (sym first) (suc j, omega arith, there)
-      | inr other ↦ subst (λ b. Contains (cond b (y ∷ filter p ys) (filter p ys)) x) (sym other) (j, within, there)
     ]
 
 Contains-map : {X Y : Type 0} (f : X → Y) (xs : List X) (x : X) → Contains xs x → Contains (map f xs) (f x)
@@ -75,7 +63,7 @@ code_is bytes none =
 
 code_among : (bytes : List ℕ) → bad_program_header bytes ≡ None → Contains (filter is_load (segments_of bytes)) (code_load bytes)
 code_among bytes none =
-    Contains-filter is_load (segments_of bytes) (code_load bytes)
+    filter_Contains is_load (segments_of bytes) (code_load bytes)
     (position_or_len is_code_load (segments_of bytes), code_place bytes none, code_row bytes (code_load bytes) none)
     (and_parts _ _ (code_is bytes none)).0
 

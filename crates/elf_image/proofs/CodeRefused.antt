@@ -4,9 +4,17 @@ use Rattle.std.proofs.lemmas.Bool.Decides.{nat_tests}
 use Rattle.std.proofs.lemmas.List.{length-append}
 use Rattle.std.specs.Option.{option_map, option_or}
 use Rattle.std.specs.Prelude.{nat_lt}
+use Rattle.std.proofs.lemmas.Bool.{not-false}
 use Rattle.elf_image.specs.declared.fault.ImageFault.TheVariants.{NoCode, EntryNotCode, BadRelocation, TooLarge}
 use Rattle.elf_image.specs.declared.fault.Over.{Over}
 use Rattle.elf_image.specs.declared.fault.Over.TheVariants.{Mapped, Ranges, Words}
+use Rattle.elf_image.specs.CodeWords.{code_words, is_code_word, extents_in}
+use Rattle.elf_image.specs.Loads.{has_note, bad_program_header, regions_of}
+use Rattle.elf_image.specs.Inner.Loaded.{loaded_length}
+use Rattle.elf_image.specs.Named.{bad_relocation}
+use Rattle.elf_image.specs.Refusal.{over_of, too_large, code_refusal}
+use Rattle.elf_image.proofs.CodeAt.{extents_in-AreCodeExtents, extents_in-is_code, extents_in-count}
+use Rattle.elf_image.proofs.Mapped.{mapped_length_is}
 use Rattle.elf_raw.specs.Header.{header_of}
 use Rattle.elf_raw.specs.Refusal.{IsSound}
 use Rattle.elf_raw.specs.Segments.{segments_of}
@@ -17,13 +25,6 @@ use Rattle.rv_code.specs.Limits.{mapped_limit, ranges_limit, words_limit}
 use Rattle.rv_code.specs.Places.{words_of, code_addresses, AreCodeExtents}
 use Rattle.rv_code.proofs.LawsOfPlaces.{length-words_of}
 use Rattle.rv_code.proofs.LawsOfRows.{none_left, none_mapped, none_first, none_second}
-use Rattle.elf_image.specs.CodeWords.{code_words, is_code_word, extents_in}
-use Rattle.elf_image.specs.Loads.{has_note, bad_program_header, regions_of}
-use Rattle.elf_image.specs.Inner.Loaded.{loaded_length}
-use Rattle.elf_image.specs.Named.{bad_relocation}
-use Rattle.elf_image.specs.Refusal.{over_of, too_large, code_refusal}
-use Rattle.elf_image.proofs.CodeAt.{extents_in-AreCodeExtents, extents_in-is_code, extents_in-count}
-use Rattle.elf_image.proofs.Mapped.{mapped_length_is}
 
 -- the answer by the four answers below it
 pub refused_at : (bytes : List ℕ) (none entry : Bool) (found : Option ℕ) (over : Option Over)
@@ -68,10 +69,6 @@ some_words bytes (extent ∷ extents) is some =
 
 -- an answer of None leaves out each refusal
 
-not_false : (t : Bool) → not t ≡ false → t ≡ true
-not_false true is = refl
-not_false false is = absurd (cc is)
-
 no_more : (limit number : ℕ) → nat_lt limit number ≡ false → number ≤ limit
 no_more limit number is = grind (arith, nat_tests)
 
@@ -92,7 +89,7 @@ code_accepted bytes is =
     let ranges = none_left _ Ranges _ mapped.1 in
     let words = none_left _ Words _ ranges.1 in
     record {
-      entry = not_false _ entry.0;
+      entry = not-false _ entry.0;
       relocations = found;
       mapped = no_more mapped_limit (mapped_length (regions_of bytes)) mapped.0;
       ranges = no_more ranges_limit (length (extents_in bytes)) ranges.0;

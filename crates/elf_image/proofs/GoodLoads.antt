@@ -1,8 +1,8 @@
 -- What the program headers of a file have of which none offends.
 use Rattle.std.proofs.Common.{◌≡◌, ℕ, zero, suc, ◌+◌, ◌<◌, ◌≤◌, Bool, true, false, cond, List, [], ◌∷◌, ◌++◌, length, Option, None, Some, refl, sym, ap, ◌∙◌, inl, inr, subst, arith, add-one, length-append}
-use Rattle.std.specs.Prelude.{not, ◌&&◌}
+use Rattle.std.specs.Prelude.{◌&&◌}
 use Rattle.std.specs.List.{All, AllPairs, filter, list_any}
-use Rattle.std.proofs.lemmas.Bool.{cases_Bool, or_parts, ltb-false, leb-false}
+use Rattle.std.proofs.lemmas.Bool.{cases_Bool, or_parts, ltb-false, leb-false, not-false}
 use Rattle.std.proofs.lemmas.List.{append-nil}
 use Rattle.std.proofs.lemmas.List.Elements.{All-nil, All-push}
 use Rattle.std.proofs.lemmas.List.Quantifiers.{all_pairs_push}
@@ -34,10 +34,6 @@ good_none noted =
       few = omega arith;
     }
 
-pub not_not : (t : Bool) → not t ≡ false → t ≡ true
-not_not true is = refl
-not_not false is = absurd (cc is)
-
 pub good_more : (noted : Bool) (loads : List RawSegment) (segment : RawSegment) → IsGoodLoads noted loads → is_load segment ≡ true → load_offends noted loads segment ≡ false
     → IsGoodLoads noted (loads ++ segment ∷ [])
 good_more noted loads segment good load none =
@@ -49,7 +45,7 @@ good_more noted loads segment good load none =
     record {
       load = load;
       whole = ltb-false segment.memsz segment.filesz allowed.0;
-      allowed = not_not (is_allowed noted segment) allowed.1;
+      allowed = not-false (is_allowed noted segment) allowed.1;
     }
     in
     record {

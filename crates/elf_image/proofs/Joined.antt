@@ -8,20 +8,16 @@ use Rattle.std.proofs.lemmas.List.{take_all}
 use Rattle.std.proofs.lemmas.List.Elements.{All-weaker, recursion_from_All}
 use Rattle.std.proofs.lemmas.List.Sorted.{list_any-IsPermutation, All-permutation}
 use Rattle.rv_code.specs.Ordered.{rising}
-use Rattle.rv_code.proofs.LawsOfLists.{Climbs, Climbs-lower, Climbs-from_non_decreasing, is_rising}
 use Rattle.rv_code.specs.declared.extent.Extent.{Extent}
 use Rattle.rv_code.specs.Code.{extent_end, is_word_of, is_code}
 use Rattle.rv_code.specs.Places.{code_addresses, IsCodeExtent, AreCodeExtents, extents_at}
+use Rattle.rv_code.proofs.LawsOfLists.{Climbs, Climbs-lower, Climbs-from_non_decreasing, is_rising}
 use Rattle.rv_code.proofs.LawsOfPlaces.{is_code-by_starts, by_starts-is_code, starts_aligned, is_code-Contains, Contains-is_code, code_addresses-IsStrictlyIncreasing, extents_at-code_addresses}
+use Rattle.rv_code.proofs.LawsOfTests.{same_answers}
 use Rattle.elf_image.specs.Inner.Parts.{IsPart, touches, united, joined_from, joined_of}
 
 abbrev start_of : Extent → ℕ
 start_of extent = extent.start
-
-pub same_answers : (one other : Bool) → (one ≡ true → other ≡ true) → (other ≡ true → one ≡ true) → one ≡ other
-same_answers true other to from = sym (to refl)
-same_answers false true to from = from refl
-same_answers false false to from = refl
 
 -- where a word of an extent stands
 pub lies : (extent : Extent) (address : ℕ) → is_word_of extent address ≡ true → (extent.start ≤ address) × (address < extent_end extent) × (address % 4 ≡ 0)

@@ -1,7 +1,7 @@
 -- A note that was written is read back.
-use Rattle.std.proofs.Common.{◌≡◌, ℕ, zero, suc, ◌+◌, ◌-◌, ◌*◌, ◌%◌, ◌^◌, ◌<◌, Bool, true, ◌&&◌, List, [], ◌∷◌, ◌++◌, length, get_or, map, refl, sym, ap, ◌∙◌, arith}
+use Rattle.std.proofs.Common.{◌≡◌, ℕ, zero, suc, ◌+◌, ◌-◌, ◌*◌, ◌%◌, ◌^◌, ◌<◌, Bool, true, List, [], ◌∷◌, ◌++◌, length, get_or, map, refl, sym, ap, ◌∙◌, arith}
 use Rattle.std.specs.List.{All, AllByRecursion, flat_map, list_all, range_with_len}
-use Rattle.std.proofs.lemmas.Bool.{lt-ltb, le-leb, eq-eqb}
+use Rattle.std.proofs.lemmas.Bool.{lt-ltb, le-leb, eq-eqb, and_from}
 use Rattle.std.proofs.lemmas.List.{append-nil, get_or-map, length-map}
 use Rattle.std.proofs.lemmas.List.Elements.{All-from_recursion}
 use Rattle.std.proofs.lemmas.List.FromFn.{fill_by_all, get_or-range_with_len, length-range_with_len}
@@ -36,9 +36,6 @@ words_length (mark ∷ marks) = omega (arith, words_length marks)
 marks_fit : (marks : List Mark) → AllByRecursion (λ (mark : Mark). IsWord mark.from × IsWord mark.original) marks → AllByRecursion IsWord (flat_map mark_words marks)
 marks_fit [] fit = tt
 marks_fit (mark ∷ marks) fit = (fit.0.0, (fit.0.1, marks_fit marks fit.1))
-
-both : (one other : Bool) → one ≡ true → other ≡ true → (one && other) ≡ true
-both one other first second = rw (first, second)
 
 -- how words are read back
 pub record AreRead : Type 0 where
@@ -125,10 +122,10 @@ module _ (read : AreRead) (note : Note) (is : IsNote note) (few : length note.ma
   length_back =
       let size : length (note_bytes note) ≡ 28 + 8 * length note.map = omega (arith, read.size (note_words note), words_count) in
       let count = count_there in
-      both _ _ (le-leb 28 (length (note_bytes note)) (omega arith)) (eq-eqb (length (note_bytes note)) (28 + 8 * mark_count (note_bytes note)) (omega arith))
+      and_from _ _ (le-leb 28 (length (note_bytes note)) (omega arith)) (eq-eqb (length (note_bytes note)) (28 + 8 * mark_count (note_bytes note)) (omega arith))
 
   pub note_is : is_note (note_bytes note) ≡ true
   note_is =
       let entry : word_at (note_bytes note) 4 % 4 ≡ 0 = ap (λ n. n % 4) (word_there 4 0 refl (omega arith)) ∙ is.entry in
       let first : word_at (note_bytes note) 8 % 4 ≡ 0 = ap (λ n. n % 4) (word_there 8 1 refl (omega arith)) ∙ is.first in
-      both _ _ (both _ _ (both _ _ (both _ _ (both _ _ length_back refl) (eq-eqb _ 0 entry)) (eq-eqb _ 0 first)) rise_back) aligned_back
+      and_from _ _ (and_from _ _ (and_from _ _ (and_from _ _ (and_from _ _ length_back refl) (eq-eqb _ 0 entry)) (eq-eqb _ 0 first)) rise_back) aligned_back

@@ -4,7 +4,7 @@ use Rattle.std.specs.Prelude.{not, ◌&&◌, ◌||◌, IfSome, is_some}
 use Rattle.std.specs.Option.{option_map}
 use Rattle.std.specs.List.{All, AllByRecursion, find, list_all, range_with_len}
 use Rattle.std.specs.List.Sorted.{IsStrictlyIncreasing}
-use Rattle.std.proofs.lemmas.Bool.{and_parts, or_parts, cases_lt, eqb-true, ltb-true}
+use Rattle.std.proofs.lemmas.Bool.{and_parts, or_parts, cases_lt, eqb-true, ltb-true, not-false}
 use Rattle.std.proofs.lemmas.List.{get_or-map, get_or_past, length-map}
 use Rattle.std.proofs.lemmas.List.Elements.{All-contains, All-take, All-drop, All-get_or, recursion_from_All}
 use Rattle.std.proofs.lemmas.List.FromFn.{get_or-range_with_len, length-range_with_len, get_or-map-range_with_len, length-map-range_with_len}
@@ -22,7 +22,7 @@ use Rattle.rv_code.specs.Numbers.{IsByte, IsWord}
 use Rattle.elf_image.specs.Loads.{is_note_header, piece_of, has_note, before, bad_note_at, bad_program_header, note_in}
 use Rattle.elf_image.specs.NoteBytes.{mark_count, mark_of, note_of, rises_at, is_aligned_at, marks_rise, is_note}
 use Rattle.elf_image.proofs.Found.{found, is_some-find}
-use Rattle.elf_image.proofs.GoodLoads.{IsGood, good, not_not}
+use Rattle.elf_image.proofs.GoodLoads.{IsGood, good}
 use Rattle.elf_image.proofs.HeaderRows.{header_row, headers_number, headers_read}
 
 -- what holds of each program header by its number holds of each in the list
@@ -40,7 +40,7 @@ note_at bytes number fine header =
     let rest : (not (is_note (piece_of bytes (segment_of bytes number))) || has_note (before bytes number)) ≡ false =
     ap (λ t. t && (not (is_note (piece_of bytes (segment_of bytes number))) || has_note (before bytes number))) (sym header) ∙ fine
     in
-    not_not (is_note (piece_of bytes (segment_of bytes number))) (or_parts _ _ rest).0
+    not-false (is_note (piece_of bytes (segment_of bytes number))) (or_parts _ _ rest).0
 
 -- where none offends, each header of the note's type has a note
 pub each_note : (bytes : List ℕ) → IsGood bytes → All (λ segment. is_note_header segment ≡ true → is_note (piece_of bytes segment) ≡ true) (segments_of bytes)

@@ -1,10 +1,9 @@
 -- What the regions of a file have of whose program headers none offends.
 use Rattle.std.proofs.Common.{◌≡◌, ℕ, ◌+◌, ◌^◌, ◌≤◌, Bool, true, false, List, [], ◌∷◌, length, get_or, drop, map, None, sym, ap, ◌∙◌, inl, inr, subst, arith, length-take, length-drop}
-use Rattle.std.specs.Prelude.{◌⊎◌, ◌&&◌, not, ◌==◌, nat_lt, nat_le, is_some}
+use Rattle.std.specs.Prelude.{◌⊎◌, ◌&&◌, nat_le, is_some}
 use Rattle.std.specs.Bool.{IsTrue}
 use Rattle.std.specs.List.{All, AllByRecursion, filter}
 use Rattle.std.proofs.lemmas.Bool.{cases_lt, or_cases, and_parts, leb-true}
-use Rattle.std.proofs.lemmas.Bool.Decides.{nat_tests}
 use Rattle.std.proofs.lemmas.List.{length-map}
 use Rattle.std.proofs.lemmas.List.Elements.{All-head, All-tail, All-filter, All-map, recursion_from_All}
 use Rattle.std.proofs.lemmas.List.Sorted.{All-permutation, length_permutation}

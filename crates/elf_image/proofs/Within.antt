@@ -1,9 +1,7 @@
 -- What is in lists that are made of others.
-use Rattle.std.proofs.Common.{◌≡◌, ℕ, zero, suc, ◌+◌, ◌<◌, ◌≤◌, Bool, true, eqb, List, [], ◌∷◌, refl, inl, inr, arith}
-use Rattle.std.specs.List.{Contains, filter, flat_map, list_any, range_with_len}
-use Rattle.std.proofs.lemmas.Bool.{or_cases, eqb-true, eq-eqb, false≢true}
+use Rattle.std.proofs.Common.{◌≡◌, ℕ, zero, suc, ◌+◌, ◌<◌, ◌≤◌, Bool, true, List, [], ◌∷◌, refl, inl, inr, arith}
+use Rattle.std.specs.List.{Contains, filter, flat_map, range_with_len}
 use Rattle.std.proofs.lemmas.List.Elements.{All-contains, All-contains_itself, All-filter, Contains-append_cases, filter_passes}
-use Rattle.std.proofs.lemmas.List.Folds.{list_any_at}
 
 -- the element that a kept element was, and the test that it passes
 pub Contains-from_filter : {X : Type 0} (p : X → Bool) (xs : List X) (x : X) → Contains (filter p xs) x → Contains xs x
@@ -30,15 +28,3 @@ Contains-from_range from (suc count) number (zero, inside, same) = (omega arith,
 Contains-from_range from (suc count) number (suc k, inside, same) =
     let (above, below) = Contains-from_range (from + 1) count number (k, omega arith, same) in
     (omega arith, omega arith)
-
--- a number is in a list exactly where one of them is equal to it
-pub any-from_Contains : (numbers : List ℕ) (number : ℕ) → Contains numbers number → list_any (λ other. eqb other number) numbers ≡ true
-any-from_Contains numbers number (k, inside, same) =
-    list_any_at (λ other. eqb other number) numbers k number inside (eq-eqb _ number same)
-
-pub Contains-from_any : (numbers : List ℕ) (number : ℕ) → list_any (λ other. eqb other number) numbers ≡ true → Contains numbers number
-Contains-from_any [] number is = absurd (false≢true is)
-Contains-from_any (other ∷ numbers) number is = elim (or_cases (eqb other number) (list_any (λ other. eqb other number) numbers) is) [
-  | inl here ↦ (0, omega arith, eqb-true other number here)
-  | inr there ↦ let (k, inside, same) = Contains-from_any numbers number there in (suc k, omega arith, same)
-]

@@ -1,14 +1,14 @@
 -- A file of which no refusal holds.
 use Rattle.std.proofs.Common.{◌≡◌, ℕ, zero, suc, ◌+◌, ◌*◌, ◌/◌, ◌%◌, ◌<◌, ◌≤◌, Bool, true, false, List, length, take, get_or, Option, None, Some, refl, sym, ap, ◌∙◌, arith}
-use Rattle.std.proofs.lemmas.Bool.{cond-false, le-ltb, eq-eqb, and_right}
+use Rattle.std.proofs.lemmas.Bool.{cond-false, le-ltb, eq-eqb, and_right, or_from, not_from_true}
 use Rattle.std.proofs.lemmas.List.{take-take, get_or-take}
 use Rattle.std.specs.List.{find, range_with_len}
 use Rattle.std.specs.Option.{option_map, option_or}
 use Rattle.std.specs.Prelude.{not, nat_lt, ◌&&◌, ◌||◌, ◌==◌, slice_index}
+use Rattle.std.specs.Str.{bytes_eq}
 use Rattle.elf_raw.specs.declared.fault.ElfFault.TheVariants.{BadTable}
 use Rattle.elf_raw.specs.declared.header.RawHeader.{RawHeader}
 use Rattle.elf_raw.specs.Header.{header_of}
-use Rattle.std.specs.Str.{bytes_eq}
 use Rattle.elf_raw.specs.Refusal.{magic, passes, has_magic, segment_offends, section_offends, bad_segment, bad_section, bad_table, flag, table_refusal, elf_refusal}
 use Rattle.elf_raw.specs.Segments.{segment_offset}
 use Rattle.elf_raw.specs.Sections.{section_offset}
@@ -31,16 +31,8 @@ none_bad p from (suc count) none =
     let there : from + 1 + k ≡ from + suc k = omega arith in
     ap p there ∙ none (suc k) (omega arith))
 
-both_false : (x y : Bool) → x ≡ false → y ≡ false → (x || y) ≡ false
-both_false true y one two = absurd (cc one)
-both_false false y one two = two
-
-not_true : (x : Bool) → x ≡ true → not x ≡ false
-not_true true is = refl
-not_true false is = absurd (cc is)
-
 is_number : (m n : ℕ) → m ≡ n → not (m == n) ≡ false
-is_number m n is = not_true (m == n) (eq-eqb m n is)
+is_number m n is = not_from_true (m == n) (eq-eqb m n is)
 
 some_sized : (count size want : ℕ) → (0 < count → size ≡ want) → (not (count == 0) && not (size == want)) ≡ false
 some_sized zero size want sized = refl
@@ -91,14 +83,14 @@ module _ (bytes : List ℕ) (raw : RawElf) (same : header_of bytes ≡ raw.heade
       cond-false _ _ _ (is_number (header_of bytes).kind 2 (ap (λ (h : RawHeader). h.kind) same ∙ is.kind))
       ∙ cond-false _ _ _ (is_number (header_of bytes).machine 243 (ap (λ (h : RawHeader). h.machine) same ∙ is.machine))
       ∙ cond-false _ _ _ (flags_clear 1 (omega arith))
-      ∙ cond-false _ _ _ (both_false (flag bytes 2 || flag bytes 4) (flag bytes 8) (both_false (flag bytes 2) (flag bytes 4) (flags_clear 2 (omega arith)) (flags_clear 4 (omega arith))) (flags_clear 8 (omega arith)))
+      ∙ cond-false _ _ _ (or_from (flag bytes 2 || flag bytes 4) (flag bytes 8) (or_from (flag bytes 2) (flag bytes 4) (flags_clear 2 (omega arith)) (flags_clear 4 (omega arith))) (flags_clear 8 (omega arith)))
       ∙ ap (option_map BadTable) tables
 
   pub file_taken : 52 ≤ length bytes → bad_table bytes ≡ None → elf_refusal bytes ≡ None
   file_taken whole tables =
-      cond-false _ _ _ (both_false (nat_lt (length bytes) 52) (not (has_magic bytes)) (le-ltb (length bytes) 52 whole) (not_true (has_magic bytes) (magic_there bytes raw.header same is.magic)))
+      cond-false _ _ _ (or_from (nat_lt (length bytes) 52) (not (has_magic bytes)) (le-ltb (length bytes) 52 whole) (not_from_true (has_magic bytes) (magic_there bytes raw.header same is.magic)))
       ∙ cond-false _ _ _
-      (both_false (not (slice_index bytes 4 == 1)) (not (slice_index bytes 5 == 1))
+      (or_from (not (slice_index bytes 4 == 1)) (not (slice_index bytes 5 == 1))
       (is_number (slice_index bytes 4) 1 (ident_there bytes raw.header same 4 (omega arith) ∙ is.class))
       (is_number (slice_index bytes 5) 1 (ident_there bytes raw.header same 5 (omega arith) ∙ is.order)))
       ∙ header_taken tables

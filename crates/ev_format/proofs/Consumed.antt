@@ -1,24 +1,10 @@
 -- Bytes that are taken from a source piece by piece, and why none is next where reading stopped behind some.
-use Rattle.std.proofs.Common.{◌≡◌, ℕ, List, [], ◌++◌, Option, None, Some, refl, sym, ap, ◌∙◌, subst, append_assoc}
-use Rattle.std.specs.Io.KnownBytes.{prepend_known}
+use Rattle.std.proofs.Common.{◌≡◌, ℕ, List, ◌++◌, Option, None, Some, sym, subst}
 use Rattle.ae_ports.specs.Content.{Consumes}
 use Rattle.ev_format.specs.declared.halt.Halt.{Halt}
 use Rattle.ev_format.specs.declared.halt.Halt.TheVariants.{Stopped, Failed}
 use Rattle.ev_format.specs.declared.stop.Stop.{Stop}
 use Rattle.ev_format.specs.Answers.{IfStopped}
-
-prepend_twice : (first second : List ℕ) (known : Option (List ℕ)) → prepend_known first (prepend_known second known) ≡ prepend_known (first ++ second) known
-prepend_twice first second None = refl
-prepend_twice first second (Some bytes) = ap Some (sym (append_assoc first second bytes))
-
--- nothing was taken
-pub Consumes-none : (known : Option (List ℕ)) → Consumes known known []
-Consumes-none None = refl
-Consumes-none (Some bytes) = refl
-
--- a piece, and another behind it
-pub Consumes-behind : (before mid now : Option (List ℕ)) (first second : List ℕ) → Consumes before mid first → Consumes mid now second → Consumes before now (first ++ second)
-Consumes-behind before mid now first second one two = one ∙ ap (prepend_known first) two ∙ prepend_twice first second now
 
 -- where a stop means one thing of the bytes that are left, it means another
 pub IfStopped-means : (told : Option (List ℕ)) (P Q : List ℕ → Stop → Type 0) (halt : Halt) → ((bytes : List ℕ) (stop : Stop) → P bytes stop → Q bytes stop)

@@ -6,12 +6,12 @@ use Rattle.std.specs.List.{range_with_len}
 use Rattle.std.proofs.lemmas.Bool.{cases_eq, eq-eqb, ne_eqb}
 use Rattle.std.proofs.lemmas.Nat.{ones-le, ones_cat, ones_le_self, zero_from_ones, shr-shr}
 use lib.Count.{ones}
+use Rattle.rv_code.proofs.LawsOfBytes.{length-words}
 use Rattle.ae_nums.specs.Registers.{registers_of}
 use Rattle.ev_format.specs.declared.record.Record.{Record}
 use Rattle.ev_format.specs.declared.record.Record.TheVariants.{Landing}
 use Rattle.ev_format.specs.Shapes.{ShapeView, IsShape}
 use Rattle.ev_format.specs.Spelling.{record_bytes}
-use Rattle.ev_format.proofs.Words.{length-words}
 
 one_bit : ones 1 ≡ 1
 one_bit = elim (cases_eq (ones 1) 0) [

@@ -2,6 +2,7 @@
 use Rattle.std.proofs.Common.{◌≡◌, ℕ, ◌+◌, ◌-◌, ◌*◌, ◌%◌, ◌<◌, ◌≤◌, List, ◌++◌, length, true, false, refl, sym, ap, ◌∙◌, subst, arith, length-append}
 use Rattle.std.specs.List.{flat_map}
 use Rattle.rv_code.specs.Numbers.{IsWord, bytes_of}
+use Rattle.rv_code.proofs.LawsOfBytes.{length-words}
 use Rattle.ev_format.specs.declared.kind.RecordKind.{RecordKind}
 use Rattle.ev_format.specs.declared.kind.RecordKind.TheVariants as kinds
 use Rattle.ev_format.specs.declared.record.Record.{Record}
@@ -14,7 +15,7 @@ use Rattle.ev_format.specs.Reading.{RecordStops}
 use Rattle.ev_format.specs.Shapes.{ShapeView, IsShape, takes_kind, has_slot, value_count, HasRecord}
 use Rattle.ev_format.specs.Spelling.{kind_in, address_in, kind_bits, first_word, record_bytes}
 use Rattle.ev_format.proofs.Spelled.{kind_bits-small, same_address, same_bits, same_kind}
-use Rattle.ev_format.proofs.Words.{bytes_of-same, length-words}
+use Rattle.ev_format.proofs.Words.{bytes_of-same}
 
 -- the address and the low bits of a first word
 abbrev pub address_named : ℕ → ℕ

@@ -1,5 +1,5 @@
 -- Words as bytes.
-use Rattle.std.proofs.Common.{◌≡◌, ℕ, ◌*◌, ◌/◌, ◌%◌, List, [], ◌∷◌, ◌++◌, length, refl, arith}
+use Rattle.std.proofs.Common.{◌≡◌, ℕ, ◌/◌, ◌%◌, List, [], ◌∷◌, ◌++◌, length, refl, arith}
 use Rattle.std.specs.List.{AllByRecursion, flat_map}
 use Rattle.rv_code.specs.Numbers.{IsWord, bytes_of}
 
@@ -10,10 +10,6 @@ same_word a b small_a small_b one two three four = omega arith
 
 pub bytes_of-same : (a b : ℕ) (xs ys : List ℕ) → IsWord a → IsWord b → bytes_of 4 a ++ xs ≡ bytes_of 4 b ++ ys → (a ≡ b) × (xs ≡ ys)
 bytes_of-same a b xs ys small_a small_b same = (same_word a b small_a small_b (cc) (cc) (cc) (cc), cc)
-
-pub length-words : (words : List ℕ) → length (flat_map (bytes_of 4) words) ≡ 4 * length words
-length-words [] = refl
-length-words (word ∷ words) = omega (arith, length-words words)
 
 -- as many words are known by their bytes, whatever follows
 pub words_same : (ws vs xs ys : List ℕ) → length ws ≡ length vs → AllByRecursion IsWord ws → AllByRecursion IsWord vs

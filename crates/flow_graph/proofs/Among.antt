@@ -3,7 +3,7 @@ use Rattle.std.proofs.Common.{◌≡◌, ℕ, zero, suc, ◌+◌, Bool, true, fa
 use Rattle.std.specs.Prelude.{flat_map}
 use Rattle.std.specs.List.{AllByRecursion, Contains}
 use Rattle.std.specs.Option.{option_map_or}
-use Rattle.std.proofs.lemmas.Bool.{cases_Bool, eq-eqb}
+use Rattle.std.proofs.lemmas.Bool.{cases_Bool, eq-eqb, or_left, or_right, or_parts}
 use Rattle.std.proofs.lemmas.List.Folds.{list_any-append}
 use Rattle.std.proofs.lemmas.Option.{slice_get_within, slice_get-get_or, get_or_from_slice_get}
 use Rattle.rv_code.specs.declared.extent.Extent.{Extent}
@@ -21,18 +21,6 @@ use Rattle.flow_graph.specs.Marks.{is_one_of}
 use Rattle.flow_graph.proofs.Followed.{first_word, next_word, starts_of, code_facts, code_at, adjacent}
 use Rattle.flow_graph.proofs.Paired.{Alternate}
 use Rattle.flow_graph.proofs.Targets.{behind}
-
-or_left : (a b : Bool) → a ≡ true → (a || b) ≡ true
-or_left true b is = refl
-or_left false b is = absurd (cc is)
-
-or_right : (a b : Bool) → b ≡ true → (a || b) ≡ true
-or_right true b is = refl
-or_right false b is = is
-
-or_false : (a b : Bool) → (a || b) ≡ false → (a ≡ false) × (b ≡ false)
-or_false true b is = absurd (cc is)
-or_false false b is = (refl, is)
 
 -- among more addresses
 among_front : (xs ys : List ℕ) (word : ℕ) → is_one_of xs word ≡ true → is_one_of (xs ++ ys) word ≡ true
@@ -89,8 +77,8 @@ behind_word ranges address = option_map_or (λ (instr : Instr). ends_a_run (clas
 not_last : (ranges : List Range) (starts : List ℕ) (address : ℕ) → is_last_among ranges starts address ≡ false
     → (is_code (extents_of ranges) (address + 4) ≡ true) × (is_leader_among ranges starts (address + 4) ≡ false)
 not_last ranges starts address is =
-    let both = or_false (behind_word ranges address) (is_end_among ranges starts address) is in
-    let parts = or_false (not (is_code (extents_of ranges) (address + 4))) (is_leader_among ranges starts (address + 4)) both.1 in
+    let both = or_parts (behind_word ranges address) (is_end_among ranges starts address) is in
+    let parts = or_parts (not (is_code (extents_of ranges) (address + 4))) (is_leader_among ranges starts (address + 4)) both.1 in
     elim (cases_Bool (is_code (extents_of ranges) (address + 4))) [
       | inl code ↦ (code, parts.1)
       | inr none ↦ absurd (cc (sym (ap not none) ∙ parts.0))

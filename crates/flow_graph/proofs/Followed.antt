@@ -10,6 +10,7 @@ use Rattle.rv_code.specs.Code.{is_code, is_word_of}
 use Rattle.rv_code.specs.Places.{address_of, code_addresses, place_of, AreCodeExtents, EndsInSpace, IsCodeExtent}
 use Rattle.rv_code.proofs.LawsOfLookUps.{address_of-cons, address_of-place_of, address_of-rises, is_some-place_of}
 use Rattle.rv_code.proofs.LawsOfPlaces.{Contains-is_code}
+use Rattle.rv_code.proofs.LawsOfTests.{same_found}
 
 at_front : (extent : Extent) (extents : List Extent) (place : ℕ) → place < extent.count → address_of (extent ∷ extents) place ≡ Some (extent.start + 4 * place)
 at_front extent extents place inside =
@@ -22,14 +23,11 @@ at_back extent extents place behind =
 abbrev pub starts_of : List Extent → List ℕ
 starts_of extents = map (λ (extent : Extent). extent.start) extents
 
-same_address : (one other : ℕ) (found : Option ℕ) → found ≡ Some one → found ≡ Some other → one ≡ other
-same_address one other found first second = let same : Some one ≡ Some other = sym first ∙ second in cc
-
 -- the first code word stands at a start
 pub first_word : (extents : List Extent) (address : ℕ) → AllByRecursion IsCodeExtent extents → address_of extents 0 ≡ Some address → Contains (starts_of extents) address
 first_word [] address each is = absurd (cc is)
 first_word (extent ∷ extents) address each is =
-    let same : extent.start + 4 * 0 ≡ address = same_address (extent.start + 4 * 0) address (address_of (extent ∷ extents) 0) (at_front extent extents 0 each.0.some) is in
+    let same : extent.start + 4 * 0 ≡ address = same_found (extent.start + 4 * 0) address (address_of (extent ∷ extents) 0) (at_front extent extents 0 each.0.some) is in
     (zero, omega arith, omega (arith, same))
 
 later : (x address : ℕ) (xs : List ℕ) → Contains xs address → Contains (x ∷ xs) address
@@ -40,8 +38,8 @@ pub next_word : (extents : List Extent) (place address next : ℕ) → AllByRecu
 next_word [] place address next each is behind = absurd (cc is)
 next_word (extent ∷ extents) place address next each is behind = elim (cases_lt (place + 1) extent.count) [
   | inl both ↦
-      let one : extent.start + 4 * place ≡ address = same_address _ _ _ (at_front extent extents place (omega (arith, both))) is in
-      let two : extent.start + 4 * (place + 1) ≡ next = same_address _ _ _ (at_front extent extents (place + 1) both) behind in
+      let one : extent.start + 4 * place ≡ address = same_found _ _ _ (at_front extent extents place (omega (arith, both))) is in
+      let two : extent.start + 4 * (place + 1) ≡ next = same_found _ _ _ (at_front extent extents (place + 1) both) behind in
       inl (omega (arith, one, two))
   | inr past ↦ elim (cases_lt place extent.count) [
     | inl last ↦
@@ -104,7 +102,7 @@ adjacent extents place address order ends is code =
         | inl less ↦ let falls = address_of-rises extents other place (address + 4) address order.rise less there is in absurd (omega (arith, falls))
         | inr not_less ↦
             let same : other ≡ place = omega (arith, before, not_less) in
-            let both : address + 4 ≡ address = same_address _ _ _ (ap (address_of extents) (sym same) ∙ there) is in
+            let both : address + 4 ≡ address = same_found _ _ _ (ap (address_of extents) (sym same) ∙ there) is in
             absurd (omega (arith, both))
       ]
     ]

@@ -1,11 +1,12 @@
 -- Blocks are runs of code words, and each word is in one.
-use Rattle.std.proofs.Common.{◌≡◌, ℕ, suc, ◌%◌, ◌<◌, Bool, true, false, ◌&&◌, List, [], ◌∷◌, length, get_or, Some, None, refl, ap, ◌∙◌, inl, inr, arith}
+use Rattle.std.proofs.Common.{◌≡◌, ℕ, ◌%◌, true, List, [], ◌∷◌, get_or, Some, None, ap, ◌∙◌, inl, inr}
 use Rattle.std.specs.List.{AllByRecursion}
-use Rattle.std.proofs.lemmas.Bool.{cases_Bool}
+use Rattle.std.proofs.lemmas.Bool.{cases_Bool, and_left}
 use Rattle.std.proofs.lemmas.Option.{slice_get-get_or}
 use Rattle.rv_code.specs.Code.{extents_of}
 use Rattle.rv_code.specs.Places.{code_addresses, AreCodeExtents, EndsInSpace}
 use Rattle.rv_code.proofs.LawsOfPlaces.{is_code-Contains}
+use Rattle.rv_code.proofs.LawsOfElements.{all_by_place}
 use Rattle.flow_graph.specs.declared.block.Block.{Block}
 use Rattle.flow_graph.specs.Blocks.{blocks_of, is_last}
 use Rattle.flow_graph.specs.CodeParts.{CodeParts, has_code}
@@ -18,13 +19,6 @@ use Rattle.flow_graph.proofs.Marked.{words_rise}
 use Rattle.flow_graph.proofs.Runs.{runs_of, Runs}
 use Rattle.flow_graph.proofs.Whole.{in_one_run, whole_runs, IsWhole}
 
-each_by_place : (P : ℕ → Type 0) (words : List ℕ) → ((place : ℕ) → place < length words → P (get_or words place 0)) → AllByRecursion P words
-each_by_place P [] each = tt
-each_by_place P (word ∷ words) each = (each 0 (omega arith), each_by_place P words (λ place within. each (suc place) (omega (arith, within))))
-
-no_leader : (code among : Bool) → code ≡ false → (code && among) ≡ false
-no_leader code among is = rw is refl
-
 runs_in : (parts : CodeParts) → AreCodeExtents (extents_of parts.code) → AllByRecursion EndsInSpace (extents_of parts.code)
     → Runs (is_leader parts) (is_last parts) None (code_addresses (extents_of parts.code))
 runs_in parts order ends = runs_of (is_leader parts) (is_last parts) (code_addresses (extents_of parts.code)) (words_alternate parts.code parts.entry parts.named parts.functions order ends)
@@ -35,7 +29,7 @@ block_from_whole parts block ends whole = record {
   begins = whole.part.begun;
   alone = λ address above below. elim (cases_Bool (has_code parts address)) [
     | inl code ↦ whole.part.alone address (code_facts (extents_of parts.code) address ends code).0 above below
-    | inr none ↦ no_leader (has_code parts address) (is_one_of (block_starts parts) address) none
+    | inr none ↦ and_left (has_code parts address) (is_one_of (block_starts parts) address) none
   ];
   words = whole.part.words;
   ends = whole.ended;
@@ -52,7 +46,7 @@ blocks_are_runs parts order ends =
     let words : List ℕ = code_addresses (extents_of parts.code) in
     all_blocks parts (blocks_of parts) ends
     (whole_runs (is_leader parts) (is_last parts) (has_code parts) None 0 words (runs_in parts order ends)
-    (each_by_place (λ word. (word % 4 ≡ 0) × (has_code parts word ≡ true)) words (λ place within.
+    (all_by_place (λ word. (word % 4 ≡ 0) × (has_code parts word ≡ true)) words (λ place within.
     let code : has_code parts (get_or words place 0) ≡ true = code_at (extents_of parts.code) place (get_or words place 0) order (slice_get-get_or words place 0 within) in
     ((code_facts (extents_of parts.code) (get_or words place 0) ends code).0, code)))
     tt)

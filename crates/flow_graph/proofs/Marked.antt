@@ -8,7 +8,7 @@ use Rattle.rv_code.specs.declared.image.Range.{Range}
 use Rattle.rv_code.specs.Code.{extents_of, is_code}
 use Rattle.rv_code.specs.Image.{word_count}
 use Rattle.rv_code.specs.Places.{code_addresses, place_of, AreCodeExtents}
-use Rattle.rv_code.proofs.LawsOfLists.{Rises, Rises-from_IsStrictlyIncreasing}
+use Rattle.rv_code.proofs.LawsOfLists.{Rises, Rises-from_IsStrictlyIncreasing, Rises-slice_get}
 use Rattle.rv_code.proofs.LawsOfLookUps.{address_of-place_of, is_some-place_of}
 use Rattle.rv_code.proofs.LawsOfPlaces.{Contains-is_code, code_addresses-IsStrictlyIncreasing, length-code_addresses_of_ranges}
 use Rattle.flow_graph.specs.Marks.{is_one_of, marks_of}
@@ -48,11 +48,6 @@ elsewhere_same addresses address (word ∷ words) none =
     let rest = elsewhere_same addresses address words (λ within. none (suc within.0, omega (arith, within.1), within.2)) in
     cc
 
-low_of : (low place address : ℕ) (words : List ℕ) → Rises low words → slice_get words place ≡ Some address → low ≤ address
-low_of low place address [] rises is = absurd (cc is)
-low_of low zero address (word ∷ words) rises is = let same : word ≡ address = cc is in omega (arith, rises.0)
-low_of low (suc place) address (word ∷ words) rises is = omega (arith, rises.0, low_of (word + 1) place address words rises.1 is)
-
 set_mark : (addresses : List ℕ) (address low place : ℕ) (words : List ℕ) → Rises low words → slice_get words place ≡ Some address
     → set (map (is_one_of addresses) words) place true ≡ map (is_one_of (addresses ++ address ∷ [])) words
 set_mark addresses address low place [] rises is = absurd (cc is)
@@ -62,7 +57,7 @@ set_mark addresses address low zero (word ∷ words) rises is =
     let rest = above_same addresses address (word + 1) words (omega arith) rises.1 in
     cc
 set_mark addresses address low (suc place) (word ∷ words) rises is =
-    let above : word + 1 ≤ address = low_of (word + 1) place address words rises.1 is in
+    let above : word + 1 ≤ address = Rises-slice_get (word + 1) place address words rises.1 is in
     let first = among_other addresses address word (λ same. absurd (omega arith)) in
     let rest = set_mark addresses address (word + 1) place words rises.1 is in
     cc

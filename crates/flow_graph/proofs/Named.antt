@@ -1,10 +1,10 @@
 -- One name more among names that are each there once.
-use Rattle.std.proofs.Common.{◌≡◌, ℕ, ◌+◌, ◌≤◌, Bool, true, false, cond, ◌||◌, not, List, [], ◌∷◌, ◌++◌, Option, Some, None, refl, sym, ap, ◌∙◌, inl, inr, append-nil, arith}
+use Rattle.std.proofs.Common.{◌≡◌, ℕ, ◌+◌, ◌≤◌, Bool, true, false, cond, ◌||◌, not, List, [], ◌∷◌, ◌++◌, refl, sym, ap, ◌∙◌, inl, inr, append-nil, arith}
 use Rattle.std.specs.Prelude.{count_by, filter, is_some}
 use Rattle.std.specs.Map.{lookup}
 use Rattle.std.specs.Str.{bytes_eq}
 use Rattle.std.specs.Cmp.Lexicographic.{bytes_decides}
-use Rattle.std.proofs.lemmas.Bool.{cases_Bool}
+use Rattle.std.proofs.lemmas.Bool.{cases_Bool, or_parts}
 use Rattle.std.proofs.lemmas.List.{map-append}
 use Rattle.std.proofs.lemmas.List.Elements.{filter-append}
 use Rattle.std.proofs.lemmas.List.Sums.{sum_by-cons}
@@ -29,10 +29,6 @@ is_found (name ∷ names) text = elim (cases_Bool (bytes_eq text name.text)) [
   | inr other ↦ rw other (is_found names text)
 ]
 
-none_from_not : (found : Option ℕ) → is_some found ≡ false → found ≡ None
-none_from_not None is = refl
-none_from_not (Some x) is = absurd (cc is)
-
 pub has_from_found : {K : Type 0} (text_of : K → List ℕ) (text : List ℕ) (entries : List (K × ℕ))
     → is_some (lookup (λ (key : K). bytes_eq text (text_of key)) entries) ≡ has_name (names_by text_of entries) text
 has_from_found {K} text_of text entries = ap is_some (found_named {K = K} text_of text entries) ∙ is_found (names_by text_of entries) text
@@ -48,23 +44,13 @@ name_goes_last {K} text_of entries more key name more_is key_is is =
     ap (names_by text_of) more_is ∙ (map-append (name_by text_of) entries ((key, name.address) ∷ [])
     ∙ (ap (λ (last : Name). names_by text_of entries ++ last ∷ []) one ∙ rw is refl))
 
-either_false : (a b : Bool) → (a || b) ≡ false → (a ≡ false) × (b ≡ false)
-either_false true b is = absurd (cc is)
-either_false false b is = (refl, is)
-
 -- a key that isn't there goes last
 pub entry_goes_last : {K : Type 0} (text_of : K → List ℕ) (entries : List (K × ℕ)) (key : K) (address : ℕ) → has_name (names_by text_of entries) (text_of key) ≡ false
     → insert_entry (λ (one other : K). bytes_eq (text_of one) (text_of other)) entries key address ≡ entries ++ (key, address) ∷ []
 entry_goes_last text_of [] key address none = refl
 entry_goes_last {K} text_of (entry ∷ entries) key address none =
-    let both = either_false (bytes_eq (text_of key) (text_of entry.0)) (has_name (names_by text_of entries) (text_of key)) none in
+    let both = or_parts (bytes_eq (text_of key) (text_of entry.0)) (has_name (names_by text_of entries) (text_of key)) none in
     rw both.0 (ap (λ (more : List (K × ℕ)). entry ∷ more) (entry_goes_last {K = K} text_of entries key address both.1))
-
-same_bytes : (xs ys : List ℕ) → bytes_eq xs ys ≡ true → xs ≡ ys
-same_bytes xs ys is = (bytes_decides xs ys).0 is
-
-bytes_same : (xs ys : List ℕ) → xs ≡ ys → bytes_eq xs ys ≡ true
-bytes_same xs ys is = (bytes_decides xs ys).1 is
 
 abbrev other_than : Name → Name → Bool
 other_than name other = not (bytes_eq other.text name.text)
@@ -74,7 +60,7 @@ has_among_others : (names : List Name) (name : Name) (text : List ℕ) → bytes
 has_among_others [] name text differs = refl
 has_among_others (first ∷ names) name text differs = elim (cases_Bool (bytes_eq first.text name.text)) [
   | inl same ↦
-      let none : bytes_eq text first.text ≡ false = ap (bytes_eq text) (same_bytes first.text name.text same) ∙ differs in
+      let none : bytes_eq text first.text ≡ false = ap (bytes_eq text) ((bytes_decides first.text name.text).0 same) ∙ differs in
       rw (same, none) (has_among_others names name text differs)
   | inr other ↦ rw other (ap (λ (b : Bool). bytes_eq text first.text || b) (has_among_others names name text differs))
 ]
@@ -112,7 +98,7 @@ found_among_others : (names : List Name) (name : Name) (text : List ℕ) → byt
 found_among_others [] name text differs = refl
 found_among_others (first ∷ names) name text differs = elim (cases_Bool (bytes_eq first.text name.text)) [
   | inl same ↦
-      let none : bytes_eq text first.text ≡ false = ap (bytes_eq text) (same_bytes first.text name.text same) ∙ differs in
+      let none : bytes_eq text first.text ≡ false = ap (bytes_eq text) ((bytes_decides first.text name.text).0 same) ∙ differs in
       rw (same, none) (found_among_others names name text differs)
   | inr other ↦ elim (cases_Bool (bytes_eq text first.text)) [
     | inl here ↦ rw (other, here) refl
@@ -142,7 +128,7 @@ none_among_others (first ∷ names) name text same = elim (cases_Bool (bytes_eq 
   | inl one ↦ rw one (none_among_others names name text same)
   | inr other ↦ elim (cases_Bool (bytes_eq text first.text)) [
     | inl here ↦
-        let both : bytes_eq first.text name.text ≡ true = bytes_same first.text name.text (sym (same_bytes text first.text here) ∙ same_bytes text name.text same) in
+        let both : bytes_eq first.text name.text ≡ true = (bytes_decides first.text name.text).1 (sym ((bytes_decides text first.text).0 here) ∙ (bytes_decides text name.text).0 same) in
         absurd (cc)
     | inr there ↦
         let none : once text first ≡ 0 = rw there refl in

@@ -4,7 +4,7 @@ use Rattle.std.specs.Prelude.{filter, position, slice_get}
 use Rattle.std.specs.List.{position_or_len}
 use Rattle.std.proofs.lemmas.Bool.{cases_Bool, cases_lt, lt-ltb, le-ltb}
 use Rattle.std.proofs.lemmas.Bool.Decides.{nat_tests}
-use Rattle.rv_code.proofs.LawsOfLists.{Rises}
+use Rattle.rv_code.proofs.LawsOfLists.{Rises, Rises-slice_get}
 use Rattle.flow_graph.specs.declared.block.Block.{Block}
 use Rattle.flow_graph.specs.Blocks.{holds}
 use Rattle.flow_graph.proofs.Paired.{pairs}
@@ -35,11 +35,6 @@ holds_it leader last address above below = grind (arith, nat_tests)
 
 pub ends_before : (leader last address : ℕ) → last < address → holds (record { leader = leader; last = last }) address ≡ false
 ends_before leader last address before = grind (arith, nat_tests)
-
-pub low_of : (low place address : ℕ) (words : List ℕ) → Rises low words → slice_get words place ≡ Some address → low ≤ address
-low_of low place address [] rises is = absurd (cc is)
-low_of low zero address (word ∷ words) rises is = let same : word ≡ address = cc is in omega (arith, rises.0)
-low_of low (suc place) address (word ∷ words) rises is = omega (arith, rises.0, low_of (word + 1) place address words rises.1 is)
 
 -- a run that goes on ends with a later word
 pub first_last : (begins ends : ℕ → Bool) (before low : ℕ) (words : List ℕ) → Runs begins ends (Some before) words → Rises low words
@@ -101,7 +96,7 @@ numbered begins ends None leader low zero address (word ∷ words) runs rises ah
     rw runs.0 (subst (λ (n : ℕ). position (λ (block : Block). holds block n) (pairs (word ∷ filter begins words) (filter ends (word ∷ words))) ≡ Some 0) same
     (here begins ends word word words (filter begins words) (omega arith) runs.1 rises.1))
 numbered begins ends None leader low (suc place) address (word ∷ words) runs rises ahead is =
-    let above = low_of (word + 1) place address words rises.1 is in
+    let above = Rises-slice_get (word + 1) place address words rises.1 is in
     rw runs.0 (there ends word word address words (filter begins words) (take place words) (omega (arith, above))
     (numbered begins ends (after ends word) word (word + 1) place address words runs.1 rises.1 (is_ahead (after ends word) word (word + 1) (omega arith)) is))
 numbered begins ends (Some before) leader low zero address (word ∷ words) runs rises ahead is =
@@ -109,6 +104,6 @@ numbered begins ends (Some before) leader low zero address (word ∷ words) runs
     rw runs.0 (subst (λ (n : ℕ). position (λ (block : Block). holds block n) (pairs (leader ∷ filter begins words) (filter ends (word ∷ words))) ≡ Some 0) same
     (here begins ends leader word words (filter begins words) (omega (arith, ahead, rises.0)) runs.2 rises.1))
 numbered begins ends (Some before) leader low (suc place) address (word ∷ words) runs rises ahead is =
-    let above = low_of (word + 1) place address words rises.1 is in
+    let above = Rises-slice_get (word + 1) place address words rises.1 is in
     rw runs.0 (there ends leader word address words (filter begins words) (take place words) (omega (arith, above))
     (numbered begins ends (after ends word) leader (word + 1) place address words runs.2 rises.1 (is_ahead (after ends word) leader (word + 1) (omega (arith, ahead, rises.0))) is))

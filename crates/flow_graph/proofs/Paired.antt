@@ -5,6 +5,7 @@ use Rattle.std.specs.List.{zip}
 use Rattle.std.proofs.Math.Seq.{take-length}
 use Rattle.std.proofs.lemmas.List.{take_more, map-append}
 use Rattle.std.proofs.lemmas.List.Elements.{filter-append}
+use Rattle.rv_code.proofs.LawsOfElements.{filter_kept, filter_dropped}
 use Rattle.flow_graph.specs.declared.block.Block.{Block}
 use Rattle.flow_graph.specs.Blocks.{block_by}
 
@@ -37,23 +38,17 @@ abbrev pub SoFar : (begins ends : ℕ → Bool) (words : List ℕ) (place : ℕ)
 SoFar begins ends words place blocks None = Closed begins ends words place blocks
 SoFar begins ends words place blocks (Some first) = Open begins ends words place blocks first
 
-one_kept : (test : ℕ → Bool) (word : ℕ) → test word ≡ true → filter test (word ∷ []) ≡ word ∷ []
-one_kept test word is = rw is refl
-
-one_dropped : (test : ℕ → Bool) (word : ℕ) → test word ≡ false → filter test (word ∷ []) ≡ []
-one_dropped test word is = rw is refl
-
 more_kept : (test : ℕ → Bool) (words : List ℕ) (place word : ℕ) → place < length words → get_or words place 0 ≡ word → test word ≡ true
     → filter test (take (place + 1) words) ≡ filter test (take place words) ++ word ∷ []
 more_kept test words place word within is passes =
     ap (filter test) (take_more words place 0 within ∙ ap (λ (n : ℕ). take place words ++ n ∷ []) is)
-    ∙ filter-append test (take place words) (word ∷ []) ∙ ap (λ (more : List ℕ). filter test (take place words) ++ more) (one_kept test word passes)
+    ∙ filter-append test (take place words) (word ∷ []) ∙ ap (λ (more : List ℕ). filter test (take place words) ++ more) (filter_kept test word passes)
 
 more_dropped : (test : ℕ → Bool) (words : List ℕ) (place word : ℕ) → place < length words → get_or words place 0 ≡ word → test word ≡ false
     → filter test (take (place + 1) words) ≡ filter test (take place words)
 more_dropped test words place word within is fails =
     ap (filter test) (take_more words place 0 within ∙ ap (λ (n : ℕ). take place words ++ n ∷ []) is)
-    ∙ filter-append test (take place words) (word ∷ []) ∙ ap (λ (more : List ℕ). filter test (take place words) ++ more) (one_dropped test word fails)
+    ∙ filter-append test (take place words) (word ∷ []) ∙ ap (λ (more : List ℕ). filter test (take place words) ++ more) (filter_dropped test word fails)
     ∙ append-nil (filter test (take place words))
 
 zip_more : (leaders lasts : List ℕ) (leader last : ℕ) → length leaders ≡ length lasts → zip (leaders ++ leader ∷ []) (lasts ++ last ∷ []) ≡ zip leaders lasts ++ (leader, last) ∷ []

@@ -5,10 +5,10 @@ use Rattle.std.specs.List.{AllByRecursion}
 use Rattle.std.proofs.lemmas.Bool.{cases_Bool, cases_lt}
 use Rattle.std.proofs.lemmas.Bool.Decides.{nat_tests}
 use Rattle.std.proofs.lemmas.List.Sums.{sum_by-cons}
-use Rattle.rv_code.proofs.LawsOfLists.{Rises}
+use Rattle.rv_code.proofs.LawsOfLists.{Rises, Rises-slice_get}
 use Rattle.flow_graph.specs.declared.block.Block.{Block}
 use Rattle.flow_graph.specs.Blocks.{holds}
-use Rattle.flow_graph.proofs.Numbered.{ends_before, first_last, heading, holds_it, is_ahead, low_of, Ahead}
+use Rattle.flow_graph.proofs.Numbered.{ends_before, first_last, heading, holds_it, is_ahead, Ahead}
 use Rattle.flow_graph.proofs.Paired.{pairs}
 use Rattle.flow_graph.proofs.Runs.{Runs, after}
 
@@ -149,13 +149,13 @@ in_one_run begins ends None leader low zero address (word ∷ words) runs rises 
     let same : word ≡ address = cc is in
     rw runs.0 (subst (λ (n : ℕ). how_many n (pairs (word ∷ filter begins words) (filter ends (word ∷ words))) ≡ 1) same (once_here begins ends word word words (omega arith) runs.1 rises.1))
 in_one_run begins ends None leader low (suc place) address (word ∷ words) runs rises ahead is =
-    let above = low_of (word + 1) place address words rises.1 is in
+    let above = Rises-slice_get (word + 1) place address words rises.1 is in
     rw runs.0 (once_there ends word word address words (filter begins words) (omega (arith, above))
     (in_one_run begins ends (after ends word) word (word + 1) place address words runs.1 rises.1 (is_ahead (after ends word) word (word + 1) (omega arith)) is))
 in_one_run begins ends (Some before) leader low zero address (word ∷ words) runs rises ahead is =
     let same : word ≡ address = cc is in
     rw runs.0 (subst (λ (n : ℕ). how_many n (pairs (leader ∷ filter begins words) (filter ends (word ∷ words))) ≡ 1) same (once_here begins ends leader word words (omega (arith, ahead, rises.0)) runs.2 rises.1))
 in_one_run begins ends (Some before) leader low (suc place) address (word ∷ words) runs rises ahead is =
-    let above = low_of (word + 1) place address words rises.1 is in
+    let above = Rises-slice_get (word + 1) place address words rises.1 is in
     rw runs.0 (once_there ends leader word address words (filter begins words) (omega (arith, above))
     (in_one_run begins ends (after ends word) leader (word + 1) place address words runs.2 rises.1 (is_ahead (after ends word) leader (word + 1) (omega (arith, ahead, rises.0))) is))

@@ -9,7 +9,7 @@ use Rattle.graph_paths.proofs.LawsOfPaths.{Path-wider}
 use Rattle.graph_paths.proofs.LawsOfForests.{HasNoCycle-within}
 use Rattle.flow_tree.specs.declared.cells.Cell.{Cell}
 use Rattle.flow_tree.specs.WitnessEdges.{LeavesCode, Joins, joins_forth, IsMarked, IsUnmarked, CutsCycles}
-use Rattle.flow_tree.specs.Inner.Cells.{end_count, AreCells, HaveEdges, IsFilled, IsLeaf, IsSettled, Remains}
+use Rattle.flow_tree.specs.Inner.Cells.{end_count, AreCells, IsFilled, IsLeaf, IsSettled, Remains}
 use Rattle.flow_tree.proofs.Degrees.{only_one, counts_join}
 use Rattle.flow_tree.proofs.LawsOfJoins.{inner, leaving, missing, edge_kind, leaving_joins_none}
 use Rattle.flow_tree.proofs.LeafTrails.{leaf_trail}

@@ -9,7 +9,7 @@ use Rattle.std.specs.Option.{option_map_or}
 use Rattle.std.specs.Map.{keys_of, values_of, lookup}
 use Rattle.std.specs.Ordering.{nat_cmp}
 use Rattle.std.specs.Set.{distinct_count, is_member}
-use Rattle.std.proofs.lemmas.Bool.{cases_Bool, eq-eqb, eqb-true, le-leb, leb-true, ltb-true, ltb-false}
+use Rattle.std.proofs.lemmas.Bool.{cases_Bool, eq-eqb, eqb-true, le-leb, leb-true, ltb-true, ltb-false, and_right}
 use Rattle.std.proofs.lemmas.List.{length-map}
 use Rattle.std.proofs.lemmas.List.Sums.{sum_by-cons, length-filter}
 use Rattle.std.proofs.lemmas.List.Sorted.{sum_by-IsPermutation}
@@ -70,10 +70,6 @@ unfolding IsDistinct
 distinct low [] rises = tt
 distinct low (k ∷ ks) rises = (all_differ k (k + 1) ks (omega arith) rises.1, distinct (k + 1) ks rises.1)
 
-no_and : (b : Bool) → (b && false) ≡ false
-no_and true = refl
-no_and false = refl
-
 kept_step : (test : ℕ → Bool) (address q k v : ℕ) (es : List (ℕ × ℕ)) (covered here : Bool) → lies_in address (k, v) ≡ covered → nat_eq q k ≡ here → test k ≡ here
     → (nat_eq q k ≡ true → is_member nat_eq (keys_of (filter (lies_in address) es)) q ≡ false)
     → is_member nat_eq (keys_of (filter (lies_in address) es)) q ≡ (nat_le q address && reaches address (lookup test es))
@@ -88,7 +84,7 @@ kept_step test address q k v es false false covered here tested none rest = rw t
 -- the keys of the entries in which the address lies are known by look-ups
 kept_by : (test : ℕ → Bool) (address q low : ℕ) (es : List (ℕ × ℕ)) → ((k : ℕ) → test k ≡ nat_eq q k) → Rises low (keys_of es)
     → is_member nat_eq (keys_of (filter (lies_in address) es)) q ≡ (nat_le q address && reaches address (lookup test es))
-kept_by test address q low [] same rises = sym (no_and (nat_le q address))
+kept_by test address q low [] same rises = sym (and_right (nat_le q address) false refl)
 kept_by test address q low ((k, v) ∷ es) same rises =
     kept_step test address q k v es (lies_in address (k, v)) (nat_eq q k) refl refl (same k)
     (λ here. not_member q (k + 1) (keys_of (filter (lies_in address) es)) (kept_rise (lies_in address) (k + 1) es rises.1) (omega (arith, eqb-true q k here)))

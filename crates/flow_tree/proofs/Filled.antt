@@ -7,10 +7,10 @@ use Rattle.std.proofs.lemmas.List.Sums.{sum_by-cons}
 use Rattle.std.proofs.lemmas.Option.{slice_get_within, same_Some}
 use Rattle.flow_graph.specs.declared.edge.Edge.{Edge}
 use Rattle.graph_paths.specs.Forests.{IsAmong}
+use Rattle.rv_code.proofs.LawsOfElements.{set_here, set_elsewhere}
 use Rattle.flow_tree.specs.declared.cells.Cell.{Cell}
 use Rattle.flow_tree.specs.WitnessEdges.{LeadsTo, joins_forth, IsUnmarked}
 use Rattle.flow_tree.specs.Inner.Cells.{end_count, cell_of, AreCells, IsFilled}
-use Rattle.flow_tree.proofs.AmongLists.{set_here, set_elsewhere}
 use Rattle.flow_tree.proofs.Degrees.{end_count_is, here_same, here_other, here_most}
 use Rattle.flow_tree.proofs.LawsOfJoins.{joins_within}
 use Rattle.flow_tree.proofs.Leaves.{same_cell}

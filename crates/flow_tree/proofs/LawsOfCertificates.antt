@@ -3,7 +3,7 @@ use Rattle.std.proofs.Common.{◌≡◌, inl, inr, ℕ, ◌<◌, Bool, List, [],
 use Rattle.std.proofs.lemmas.Bool.{cases_eq}
 use Rattle.flow_graph.specs.declared.edge.Edge.{Edge}
 use Rattle.graph_paths.proofs.LawsOfTrails.{Path-Simple, Simple, Trail-once}
-use Rattle.flow_tree.specs.WitnessEdges.{LeadsTo, Joins, joins_forth, IsMarked, IsUnmarked, AreGrown, IsCertificate}
+use Rattle.flow_tree.specs.WitnessEdges.{Joins, joins_forth, IsMarked, IsUnmarked, AreGrown, IsCertificate}
 use Rattle.flow_tree.proofs.Certified.{grown_cuts, grown_joins, certified, none_needed}
 use Rattle.flow_tree.proofs.LawsOfJoins.{Joins-IsUndirected, edge_kind, inner, leaving, missing, leaving_joins_none}
 use Rattle.flow_tree.proofs.Least.{both_marks, mark_cases}

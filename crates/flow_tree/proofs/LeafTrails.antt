@@ -8,9 +8,9 @@ use Rattle.graph_paths.specs.Paths.{Path, here, over}
 use Rattle.graph_paths.specs.Forests.{HasNoCycle, IsAmong, StandOnce, Trail}
 use Rattle.graph_paths.proofs.LawsOfPaths.{Path-turned, Path-wider}
 use Rattle.graph_paths.proofs.LawsOfTrails.{Trail-met}
+use Rattle.graph_paths.proofs.LawsOfMembers.{among_either}
 use Rattle.flow_tree.specs.WitnessEdges.{LeadsTo, Joins, joins_forth}
 use Rattle.flow_tree.specs.Inner.Cells.{end_count}
-use Rattle.flow_tree.proofs.AmongLists.{among_either}
 use Rattle.flow_tree.proofs.Degrees.{end_count_is, here_other, here_most, joins_counts, counts_join}
 use Rattle.flow_tree.proofs.LawsOfJoins.{Joins-IsUndirected}
 use Rattle.flow_tree.proofs.Without.{without, still_within}

@@ -7,10 +7,10 @@ use Rattle.std.proofs.lemmas.List.Sums.{sum_by-cons}
 use Rattle.std.proofs.lemmas.Option.{slice_get_within, get_or_from_slice_get, same_Some}
 use Rattle.flow_graph.specs.declared.edge.Edge.{Edge}
 use Rattle.graph_paths.specs.Forests.{IsAmong}
+use Rattle.rv_code.proofs.LawsOfElements.{set_here, set_elsewhere}
 use Rattle.flow_tree.specs.declared.cells.Cell.{Cell}
 use Rattle.flow_tree.specs.WitnessEdges.{LeadsTo}
 use Rattle.flow_tree.specs.Inner.Cells.{end_count, cell_of, AreCells, IsLeaf, Strips}
-use Rattle.flow_tree.proofs.AmongLists.{set_here, set_elsewhere}
 use Rattle.flow_tree.proofs.Degrees.{named, OneEnd, one_end, far_of, joins_counts, none_counts, none_sums, only_one}
 use Rattle.flow_tree.proofs.Sides.{no_edge}
 use Rattle.flow_tree.proofs.Without.{Without, without}

@@ -6,10 +6,10 @@ use Rattle.std.specs.declared.alloc.Global.{Global}
 use Rattle.std.specs.declared.vec.Vec.{Vec}
 use Rattle.flow_graph.specs.declared.edge.Edge.{Edge}
 use Rattle.graph_paths.specs.Forests.{IsAmong}
+use Rattle.graph_paths.proofs.LawsOfMembers.{among_front, among_end, among_either}
 use Rattle.flow_tree.specs.WitnessEdges.{LeadsTo, Joins, joins_forth}
 use Rattle.flow_tree.specs.Inner.Growing.{row_of, AreRows}
 use Rattle.flow_tree.specs.Inner.Rows.{PutsInRow, HaveJoined}
-use Rattle.flow_tree.proofs.AmongLists.{among_front, among_end, among_either}
 use Rattle.flow_tree.proofs.LawsOfJoins.{Joins-IsUndirected, joins_within}
 
 stays_in_row : (old new : List (Vec ℕ Global)) (block number : ℕ) → PutsInRow old new block number → (other edge : ℕ) → IsAmong (row_of old other) edge → IsAmong (row_of new other) edge

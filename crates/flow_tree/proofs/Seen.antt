@@ -1,16 +1,17 @@
 -- The addresses that were seen so far among those to which edges go back.
-use Rattle.std.proofs.Common.{◌≡◌, ℕ, ◌+◌, ◌<◌, ◌≤◌, Bool, true, false, cond, leb, ◌||◌, List, [], ◌∷◌, ◌++◌, length, map, take, get_or, sym, refl, ap, ◌∙◌, inl, inr, arith, add-one, append-nil, length-append}
+use Rattle.std.proofs.Common.{◌≡◌, ℕ, ◌+◌, ◌<◌, ◌≤◌, Bool, true, false, cond, leb, List, [], ◌∷◌, ◌++◌, length, map, take, get_or, sym, refl, ap, ◌∙◌, inl, inr, arith, add-one, append-nil, length-append}
 use Rattle.std.specs.Prelude.{◌⊎◌, filter, min, nat_eq}
 use Rattle.std.specs.Cmp.{nat_eq_equiv}
 use Rattle.std.specs.List.{IsDistinct}
 use Rattle.std.specs.Set.{distinct_count, is_member, unique_keys}
-use Rattle.std.proofs.lemmas.Bool.{cases_Bool, leb-true, leb-false, eqb-true}
+use Rattle.std.proofs.lemmas.Bool.{cases_Bool, leb-true, leb-false, eqb-true, or_left, or_right, or_cases}
 use Rattle.std.proofs.Math.Seq.{take-suc}
 use Rattle.std.proofs.lemmas.List.{map-append}
 use Rattle.std.proofs.lemmas.List.Elements.{filter-append}
 use Rattle.std.proofs.lemmas.List.Folds.{list_any-append}
 use Rattle.std.proofs.lemmas.Map.Keys.{IsDistinct-push}
 use Rattle.std.proofs.lemmas.Map.Made.{length-from_keys, length-le_from_is_member}
+use Rattle.rv_code.proofs.LawsOfTests.{same_answers}
 use Rattle.flow_graph.specs.declared.edge.Edge.{Edge}
 use Rattle.flow_graph.specs.CodeParts.{CodeParts}
 use Rattle.flow_tree.specs.Depth.{goes_back_past, heads_among}
@@ -27,28 +28,17 @@ pub seen_none : HasSeen [] []
 unfolding IsDistinct
 seen_none = record { apart = tt; few = omega arith; within = λ head is. is; whole = λ room head is. is }
 
-in_either : (one other : Bool) → (one || other) ≡ true → (one ≡ true) ⊎ (other ≡ true)
-in_either true other is = inl refl
-in_either false other is = inr is
-
-first_of : (one other : Bool) → one ≡ true → (one || other) ≡ true
-first_of one other is = rw is refl
-
-second_of : (one other : Bool) → other ≡ true → (one || other) ≡ true
-second_of true other is = refl
-second_of false other is = is
-
 -- a member of a list with one more
 member_behind : (heads : List ℕ) (last head : ℕ) → is_member nat_eq heads head ≡ true → is_member nat_eq (heads ++ last ∷ []) head ≡ true
-member_behind heads last head is = list_any-append (nat_eq head) heads (last ∷ []) ∙ first_of _ _ is
+member_behind heads last head is = list_any-append (nat_eq head) heads (last ∷ []) ∙ or_left _ _ is
 
 member_last : (heads : List ℕ) (last head : ℕ) → nat_eq head last ≡ true → is_member nat_eq (heads ++ last ∷ []) head ≡ true
-member_last heads last head is = list_any-append (nat_eq head) heads (last ∷ []) ∙ second_of (is_member nat_eq heads head) _ (first_of _ _ is)
+member_last heads last head is = list_any-append (nat_eq head) heads (last ∷ []) ∙ or_right (is_member nat_eq heads head) _ (or_left _ _ is)
 
 member_cases : (heads : List ℕ) (last head : ℕ) → is_member nat_eq (heads ++ last ∷ []) head ≡ true → (is_member nat_eq heads head ≡ true) ⊎ (nat_eq head last ≡ true)
-member_cases heads last head is = elim (in_either _ _ (sym (list_any-append (nat_eq head) heads (last ∷ [])) ∙ is)) [
+member_cases heads last head is = elim (or_cases _ _ (sym (list_any-append (nat_eq head) heads (last ∷ [])) ∙ is)) [
   | inl before ↦ inl before
-  | inr at ↦ elim (in_either (nat_eq head last) false at) [ inl same ↦ inr same | inr none ↦ absurd (cc none) ]
+  | inr at ↦ elim (or_cases (nat_eq head last) false at) [ inl same ↦ inr same | inr none ↦ absurd (cc none) ]
 ]
 
 seen_again : (seen heads : List ℕ) (last : ℕ) → HasSeen seen heads → is_member nat_eq seen last ≡ true → HasSeen seen (heads ++ last ∷ [])
@@ -98,18 +88,13 @@ unique_step : (first key : ℕ) (keys : List ℕ) (again : Bool) → is_member n
     → (nat_eq key first ≡ true) ⊎ (is_member nat_eq keys key ≡ true) → is_member nat_eq (cond again (unique_keys nat_eq keys) (first ∷ unique_keys nat_eq keys)) key ≡ true
 unique_step first key keys true is later (inl same) = later (ap (is_member nat_eq keys) (eqb-true key first same) ∙ is)
 unique_step first key keys true is later (inr there) = later there
-unique_step first key keys false is later (inl same) = first_of (nat_eq key first) (is_member nat_eq (unique_keys nat_eq keys) key) same
-unique_step first key keys false is later (inr there) = second_of (nat_eq key first) (is_member nat_eq (unique_keys nat_eq keys) key) (later there)
+unique_step first key keys false is later (inl same) = or_left (nat_eq key first) (is_member nat_eq (unique_keys nat_eq keys) key) same
+unique_step first key keys false is later (inr there) = or_right (nat_eq key first) (is_member nat_eq (unique_keys nat_eq keys) key) (later there)
 
 member-unique_keys : (keys : List ℕ) (key : ℕ) → is_member nat_eq keys key ≡ true → is_member nat_eq (unique_keys nat_eq keys) key ≡ true
 member-unique_keys [] key is = is
 member-unique_keys (first ∷ keys) key is =
-    unique_step first key keys (is_member nat_eq keys first) refl (member-unique_keys keys key) (in_either (nat_eq key first) (is_member nat_eq keys key) is)
-
-both_or_none : (one other : Bool) → (one ≡ true → other ≡ true) → (other ≡ true → one ≡ true) → one ≡ other
-both_or_none true other to from = sym (to refl)
-both_or_none false true to from = from refl
-both_or_none false false to from = refl
+    unique_step first key keys (is_member nat_eq keys first) refl (member-unique_keys keys key) (or_cases (nat_eq key first) (is_member nat_eq keys key) is)
 
 -- how many were seen
 pub seen_count : (seen heads : List ℕ) → HasSeen seen heads → length seen ≡ min 6 (distinct_count nat_eq heads)
@@ -119,7 +104,7 @@ seen_count seen heads has = elim (cases_Bool (leb 6 (length seen))) [
       omega (arith, more, has.few, leb-true 6 (length seen) full)
   | inr room ↦
       let space : length seen < 6 = leb-false 6 (length seen) room in
-      let same : length seen ≡ distinct_count nat_eq heads = length-from_keys nat_eq_equiv seen heads has.apart (λ head. both_or_none _ _ (has.within head) (has.whole space head)) in
+      let same : length seen ≡ distinct_count nat_eq heads = length-from_keys nat_eq_equiv seen heads has.apart (λ head. same_answers _ _ (has.within head) (has.whole space head)) in
       omega (arith, same, space)
 ]
 

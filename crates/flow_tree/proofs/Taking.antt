@@ -9,10 +9,10 @@ use Rattle.std.proofs.lemmas.Option.{slice_get_within, slice_get_read}
 use Rattle.std.specs.Option.{option_map_or}
 use Rattle.std.specs.declared.alloc.Global.{Global}
 use Rattle.std.specs.declared.vec.Vec.{Vec}
+use Rattle.rv_code.proofs.LawsOfElements.{set_here, set_elsewhere}
 use Rattle.flow_graph.specs.declared.edge.Edge.{Edge}
 use Rattle.flow_tree.specs.declared.waiting.Ranked.{Ranked}
 use Rattle.flow_tree.specs.Inner.Growing.{row_of, ranked_of, IsGrown, StaysGrown, rows_left}
-use Rattle.flow_tree.proofs.AmongLists.{set_here, set_elsewhere}
 use Rattle.flow_tree.proofs.RowsLeft.{left_without}
 
 -- what follows from two clauses on an `Ok`

@@ -14,11 +14,13 @@ use Rattle.flow_graph.specs.declared.edge.Edge.{Edge}
 use Rattle.graph_paths.specs.Paths.{Path, here, over}
 use Rattle.graph_paths.specs.Forests.{IsAmong}
 use Rattle.graph_paths.proofs.LawsOfPaths.{Path-append, Path-edge, Path-turned, Path-wider, Closes-path}
+use Rattle.graph_paths.proofs.LawsOfMembers.{among_front, among_end, among_either}
+use Rattle.rv_code.proofs.LawsOfElements.{set_here, set_elsewhere}
 use Rattle.flow_tree.specs.declared.waiting.Ranked.{Ranked}
 use Rattle.flow_tree.specs.WitnessEdges.{Joins, RanksBefore, heavier, sooner, IsWitness, leaves, closes, IsUnmarked}
 use Rattle.flow_tree.specs.Inner.Waiting.{ComesFirst, rank_order}
 use Rattle.flow_tree.specs.Inner.Growing.{AreRows, row_of, ranked_of, IsGrown, LeadsBeyond, Waits, IsGrowing, HasGrown}
-use Rattle.flow_tree.proofs.AmongLists.{among_permuted, among_back, among_front, among_end, among_either, among_map, from_map, all_among, set_here, set_elsewhere, is_set}
+use Rattle.flow_tree.proofs.AmongLists.{among_permuted, among_back, among_map, from_map, all_among, is_set}
 use Rattle.flow_tree.proofs.LawsOfJoins.{Joins-IsUndirected, leaving_joins_none, ranks_apart}
 
 -- an edge of a path that leads on from what is grown

@@ -9,11 +9,11 @@ use Rattle.graph_paths.specs.Forests.{HasNoCycle, IsAmong, StandOnce, Trail}
 use Rattle.graph_paths.proofs.LawsOfPaths.{Path-wider, Path-through}
 use Rattle.graph_paths.proofs.LawsOfForests.{HasNoCycle-within}
 use Rattle.graph_paths.proofs.LawsOfTrails.{Trail-once}
+use Rattle.graph_paths.proofs.LawsOfMembers.{among_either}
 use Rattle.flow_tree.specs.declared.cells.Cell.{Cell}
 use Rattle.flow_tree.specs.WitnessEdges.{Joins, IsUnmarked, IsTreePath}
 use Rattle.flow_tree.specs.Inner.Cells.{end_count, AreCells, IsLeaf, IsSettled, Remains, Strips}
 use Rattle.flow_tree.specs.Inner.Walks.{IsWalked}
-use Rattle.flow_tree.proofs.AmongLists.{among_either}
 use Rattle.flow_tree.proofs.Checked.{leaf_here}
 use Rattle.flow_tree.proofs.Degrees.{joins_counts, counts_join}
 use Rattle.flow_tree.proofs.LawsOfJoins.{Joins-IsUndirected, joins_within}

@@ -6,6 +6,7 @@ use Rattle.graph_paths.specs.Paths.{Path, here, over, Closes, IsUndirected}
 use Rattle.graph_paths.specs.Forests.{HasNoCycle, IsAmong, ClosesNone, StandOnce}
 use Rattle.graph_paths.proofs.LawsOfPaths.{Path-append, Closes-wider}
 use Rattle.graph_paths.proofs.LawsOfForests.{HasNoCycle-within, ClosesNone-HasNoCycle, HasNoCycle-ClosesNone}
+use Rattle.graph_paths.proofs.LawsOfMembers.{among_front, among_end, among_either}
 
 -- a list by two sorts of its elements
 record Sorted {E : Type 0} (one other : E → Type 0) (list : List E) : Type 0 where
@@ -71,20 +72,6 @@ module _ {E : Type 0} {one other : E → Type 0} where
         | inr is ↦ with_other edge list is once.0 rest
       ]
 
-among_either : {E : Type 0} (front back : List E) (edge : E) → IsAmong (front ++ back) edge → IsAmong front edge ⊎ IsAmong back edge
-among_either [] back edge is = inr is
-among_either (first ∷ front) back edge (inl same) = inl (inl same)
-among_either (first ∷ front) back edge (inr behind) = elim (among_either front back edge behind) [ inl one ↦ inl (inr one) | inr other ↦ inr other ]
-
-among_front : {E : Type 0} (front back : List E) (edge : E) → IsAmong front edge → IsAmong (front ++ back) edge
-among_front [] back edge is = absurd is
-among_front (first ∷ front) back edge (inl same) = inl same
-among_front (first ∷ front) back edge (inr behind) = inr (among_front front back edge behind)
-
-among_back : {E : Type 0} (front back : List E) (edge : E) → IsAmong back edge → IsAmong (front ++ back) edge
-among_back [] back edge is = is
-among_back (first ∷ front) back edge is = inr (among_back front back edge is)
-
 module _ {E B : Type 0} {joins : E → B → B → Type 0} (undirected : IsUndirected joins) (one other : E → Type 0)
     (apart : (edge : E) → one edge → other edge → ⊥)
     (crosses : (edge : E) → one edge → Closes joins (λ (e : E). e ≢ edge) edge → ⊥)
@@ -109,7 +96,7 @@ module _ {E B : Type 0} {joins : E → B → B → Type 0} (undirected : IsUndir
       HasNoCycle-within
       (λ edge among. elim (sorted.all edge among) [
         | inl first ↦ among_front sorted.ones sorted.others edge first
-        | inr second ↦ among_back sorted.ones sorted.others edge second
+        | inr second ↦ among_end sorted.ones sorted.others edge second
       ])
       (ClosesNone-HasNoCycle undirected (sorted.ones ++ sorted.others)
       (in_order sorted.ones sorted.others sorted.once_ones sorted.once_others sorted.each_one sorted.each_other))

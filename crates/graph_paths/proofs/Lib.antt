@@ -1,3 +1,4 @@
+pub mod LawsOfMembers
 pub mod LawsOfPaths
 pub mod LawsOfForests
 pub mod LawsOfTrails

@@ -1,10 +1,9 @@
 -- Bits of masks, and the registers of an instruction.
-use Rattle.std.proofs.Common.{◌≡◌, ℕ, zero, suc, ◌*◌, ◌%◌, ◌^◌, ◌<◌, true, cond, eqb, ◌||◌, List, [], ◌∷◌, Some, sym, ap, ◌∙◌, inl, inr, arith, one-mul, zero-mul, mod-eq_of_lt}
+use Rattle.std.proofs.Common.{◌≡◌, ℕ, zero, suc, ◌*◌, ◌%◌, ◌^◌, ◌<◌, cond, eqb, List, Some, sym, ap, ◌∙◌, inl, inr, arith, one-mul, zero-mul, mod-eq_of_lt}
 use Rattle.std.specs.Prelude.{◌⊎◌, bit_and}
 use Rattle.std.specs.Int.{bit_at, bit_not, w32}
-use Rattle.std.specs.Int.Bits.{or_zero_r}
 use Rattle.std.specs.List.{Contains, list_any}
-use Rattle.std.proofs.lemmas.Bool.{cases_Bool, cases_eq, cases_lt, eq-eqb, ne_eqb}
+use Rattle.std.proofs.lemmas.Bool.{cases_Bool, cases_eq, cases_lt}
 use Rattle.std.proofs.lemmas.Nat.{and_le_l, pow_pos}
 use Rattle.std.proofs.lemmas.Nat.Bits.{bit_at-lt, bit_at_above, and_pow, bit_at_clear_same, bit_at_clear_other}
 use Rattle.std.proofs.Math.Pow.{pow-lt}
@@ -13,36 +12,20 @@ use Rattle.rv_code.specs.declared.instr.Instr.TheVariants.{Lui, Auipc, Jal, Jalr
 use Rattle.rv_code.specs.Encoding.{Fits}
 use Rattle.rv_code.specs.Parts.{but_zero, mask_of, written_by, base_of}
 use Rattle.rv_code.proofs.LawsOfMasks.{bit_of-mask_of, lowest_of-mask_of}
+use Rattle.rv_code.proofs.LawsOfElements.{Contains_any, any_Contains}
 
 pub set_or_clear : (n k : ℕ) → (bit_at n k ≡ 1) ⊎ (bit_at n k ≡ 0)
 set_or_clear n k = elim (cases_eq (bit_at n k) 1) [ inl set ↦ inl set | inr other ↦ inr (omega (arith, bit_at-lt n k)) ]
 
-any-Contains : (xs : List ℕ) (k : ℕ) → list_any (λ x. eqb x k) xs ≡ true → Contains xs k
-any-Contains [] k is = absurd (cc is)
-any-Contains (x ∷ xs) k is = elim (cases_eq x k) [
-  | inl same ↦ (0, omega arith, same)
-  | inr other ↦
-      let (place, inside, there) = any-Contains xs k (sym (ap (λ b. b || list_any (λ y. eqb y k) xs) (ne_eqb x k other)) ∙ is) in
-      (suc place, omega arith, there)
-]
-
-Contains-any : (xs : List ℕ) (k : ℕ) → Contains xs k → list_any (λ x. eqb x k) xs ≡ true
-Contains-any [] k (place, inside, is) = absurd (omega arith)
-Contains-any (x ∷ xs) k (zero, inside, is) = ap (λ b. b || list_any (λ y. eqb y k) xs) (eq-eqb x k is)
-Contains-any (x ∷ xs) k (suc place, inside, is) = elim (cases_eq x k) [
-  | inl same ↦ ap (λ b. b || list_any (λ y. eqb y k) xs) (eq-eqb x k same)
-  | inr other ↦ ap (λ b. b || list_any (λ y. eqb y k) xs) (ne_eqb x k other) ∙ Contains-any xs k (place, omega arith, is)
-]
-
 -- a mask of registers has exactly these
 pub mask_has : (xs : List ℕ) (k : ℕ) → 0 < k → Contains xs k → bit_at (mask_of xs) k ≡ 1
 mask_has xs zero some within = absurd (omega arith)
-mask_has xs (suc k) some within = bit_of-mask_of xs k ∙ ap (λ b. cond b 1 0) (Contains-any xs (suc k) within)
+mask_has xs (suc k) some within = bit_of-mask_of xs k ∙ ap (λ b. cond b 1 0) (Contains_any xs (suc k) within)
 
 pub has_mask : (xs : List ℕ) (k : ℕ) → bit_at (mask_of xs) k ≡ 1 → (0 < k) × Contains xs k
 has_mask xs zero is = absurd (omega (arith, lowest_of-mask_of xs))
 has_mask xs (suc k) is = elim (cases_Bool (list_any (λ x. eqb x (suc k)) xs)) [
-  | inl any ↦ (omega arith, any-Contains xs (suc k) any)
+  | inl any ↦ (omega arith, any_Contains xs (suc k) any)
   | inr none ↦ let clear : bit_at (mask_of xs) (suc k) ≡ 0 = bit_of-mask_of xs k ∙ ap (λ b. cond b 1 0) none in absurd (omega arith)
 ]
 
@@ -117,8 +100,3 @@ base_real (Fence word) register fits is = absurd (cc is)
 base_real Ecall register fits is = absurd (cc is)
 base_real Ebreak register fits is = absurd (cc is)
 base_real (Bad word) register fits is = absurd (cc is)
-
--- one register as a mask, as a shift computes it
-pub shifted_mask : (register : ℕ) → 0 < register → register < 32 → 1 * 2 ^ register % 2 ^ 32 ≡ mask_of (register ∷ [])
-shifted_mask zero some below = absurd (omega arith)
-shifted_mask (suc register) some below = one_bit (suc register) below ∙ sym (or_zero_r (2 ^ suc register))

@@ -1,6 +1,6 @@
 -- Direct successors, by addresses and by places.
 use Rattle.std.proofs.Common.{◌≡◌, ℕ, zero, suc, ◌<◌, Bool, true, false, cond, List, [], ◌∷◌, ◌++◌, Option, Some, None, refl, sym, ap, subst, ◌∙◌, inl, inr, arith}
-use Rattle.std.specs.Prelude.{filter, is_some}
+use Rattle.std.specs.Prelude.{filter}
 use Rattle.std.specs.List.{Contains}
 use Rattle.std.specs.Option.{option_and_then, option_map_or}
 use Rattle.std.proofs.lemmas.Bool.{cases_Bool}
@@ -13,6 +13,8 @@ use Rattle.rv_code.specs.Places.{address_of, place_of, AreCodeExtents}
 use Rattle.rv_code.specs.Ways.{as_list, way_to, successor_by, successors_of}
 use Rattle.rv_code.proofs.LawsOfLookUps.{address_of-place_of, place_of-below, is_some-place_of}
 use Rattle.rv_code.proofs.LawsOfPlaces.{length-code_addresses_of_ranges}
+use Rattle.rv_code.proofs.LawsOfElements.{filter_Contains}
+use Rattle.rv_code.proofs.LawsOfTests.{some_there}
 use Rattle.flow_graph.specs.CodeParts.{instr_in}
 use Rattle.need_sets.specs.Inner.Sources.{led_to}
 use Rattle.need_sets.specs.Words.{successor_at, successors_at}
@@ -21,22 +23,6 @@ use Rattle.need_sets.specs.Words.{successor_at, successors_at}
 pub two_steps : {X Y : Type 0} (f : X → Option Y) (o : Option X) (y : Y) → option_and_then f o ≡ Some y → (x : X) × (o ≡ Some x) × (f x ≡ Some y)
 two_steps f None y is = absurd (cc is)
 two_steps f (Some x) y is = (x, refl, is)
-
-pub some_of : {X : Type 0} (o : Option X) → is_some o ≡ true → (x : X) × (o ≡ Some x)
-some_of None is = absurd (cc is)
-some_of (Some x) is = (x, refl)
-
-filter-Contains : (p : ℕ → Bool) (xs : List ℕ) (x : ℕ) → Contains xs x → p x ≡ true → Contains (filter p xs) x
-filter-Contains p [] x (place, inside, is) passes = absurd (omega arith)
-filter-Contains p (y ∷ ys) x (zero, inside, is) passes =
-    let here : p y ≡ true = ap p is ∙ passes in
-    subst (λ b. Contains (cond b (y ∷ filter p ys) (filter p ys)) x) (sym here) (0, omega arith, is)
-filter-Contains p (y ∷ ys) x (suc place, inside, is) passes =
-    let (there, within, same) = filter-Contains p ys x (place, omega arith, is) passes in
-    elim (cases_Bool (p y)) [
-      | inl here ↦ subst (λ b. Contains (cond b (y ∷ filter p ys) (filter p ys)) x) (sym here) (suc there, omega arith, same)
-      | inr gone ↦ subst (λ b. Contains (cond b (y ∷ filter p ys) (filter p ys)) x) (sym gone) (there, within, same)
-    ]
 
 Contains-filter : (p : ℕ → Bool) (xs : List ℕ) (x : ℕ) → Contains (filter p xs) x → Contains xs x × (p x ≡ true)
 Contains-filter p [] x (place, inside, is) = absurd (omega arith)
@@ -94,7 +80,7 @@ successor_follows code address next taken is =
     let (instr, found, leads) = two_steps (λ (i : Instr). successor_by (is_code (extents_of code)) taken i address) (instr_in code address) next is in
     let (way, passes) = by_way (is_code (extents_of code)) taken instr address next leads in
     subst (λ (o : Option Instr). Contains (option_map_or (λ i. successors_of (is_code (extents_of code)) i address) o []) next) (sym found)
-    (filter-Contains (is_code (extents_of code)) (as_list (way_to false instr address) ++ as_list (way_to true instr address)) next
+    (filter_Contains (is_code (extents_of code)) (as_list (way_to false instr address) ++ as_list (way_to true instr address)) next
     (one_of_both taken (is_code (extents_of code)) instr address next way) passes)
 
 pub followed_by : (code : List Range) (address next : ℕ) → Contains (successors_at code address) next
@@ -151,7 +137,7 @@ pub leads_on : (code : List Range) (source address next : ℕ) → AreCodeExtent
     → Contains (successors_at code address) next → LedOn code source address next
 leads_on code source address next order at within =
     let (taken, leads, passes) = followed_by code address next within in
-    let (goal, place) = some_of (place_of (extents_of code) next) (is_some-place_of (extents_of code) next order.each ∙ passes) in
+    let (goal, place) = some_there (place_of (extents_of code) next) (is_some-place_of (extents_of code) next order.each ∙ passes) in
     record {
       taken = taken;
       goal = goal;

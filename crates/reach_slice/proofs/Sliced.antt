@@ -13,6 +13,7 @@ use Rattle.rv_code.specs.Code.{extents_of}
 use Rattle.rv_code.specs.Places.{code_addresses, place_of, AreCodeExtents}
 use Rattle.rv_code.proofs.LawsOfLookUps.{address_of-place_of}
 use Rattle.rv_code.proofs.LawsOfPlaces.{code_addresses-IsStrictlyIncreasing}
+use Rattle.rv_code.proofs.LawsOfElements.{filter_Contains}
 use Rattle.need_sets.specs.Masks.{AreNeeded, base_alone}
 use Rattle.need_sets.specs.Needed.{IsKept, IsHard}
 use Rattle.need_sets.specs.Words.{class_at}
@@ -25,18 +26,6 @@ use Rattle.reach_slice.proofs.Joined.{used_in_slice, slice_is_used, used_in_some
 pub marked_rise : (code : List Range) (marks : List Bool) → AreCodeExtents (extents_of code) → IsStrictlyIncreasing (marked_words code marks)
 marked_rise code marks order =
     IsStrictlyIncreasing-filter (is_marked code marks) (code_addresses (extents_of code)) (code_addresses-IsStrictlyIncreasing (extents_of code) order.rise)
-
-filter_in : (p : ℕ → Bool) (xs : List ℕ) (x : ℕ) → Contains xs x → p x ≡ true → Contains (filter p xs) x
-filter_in p [] x (place, inside, is) passes = absurd (omega arith)
-filter_in p (y ∷ ys) x (zero, inside, is) passes =
-    let here : p y ≡ true = ap p is ∙ passes in
-    subst (λ b. Contains (cond b (y ∷ filter p ys) (filter p ys)) x) (sym here) (0, omega arith, is)
-filter_in p (y ∷ ys) x (suc place, inside, is) passes =
-    let (there, within, same) = filter_in p ys x (place, omega arith, is) passes in
-    elim (cases_Bool (p y)) [
-      | inl here ↦ subst (λ b. Contains (cond b (y ∷ filter p ys) (filter p ys)) x) (sym here) (suc there, omega arith, same)
-      | inr gone ↦ subst (λ b. Contains (cond b (y ∷ filter p ys) (filter p ys)) x) (sym gone) (there, within, same)
-    ]
 
 in_filter : (p : ℕ → Bool) (xs : List ℕ) (x : ℕ) → Contains (filter p xs) x → p x ≡ true
 in_filter p [] x (place, inside, is) = absurd (omega arith)
@@ -76,7 +65,7 @@ marked_is_slice code access masks marks order are word = (
       let mark : is_marked code marks word ≡ true =
       ap (λ o. option_map_or (λ p. get_or marks p false) o false) is ∙ (are.used place word at).1 used
       in
-      filter_in (is_marked code marks) (code_addresses (extents_of code)) word (slice_get-Contains (code_addresses (extents_of code)) place word at) mark),
+      filter_Contains (is_marked code marks) (code_addresses (extents_of code)) word (slice_get-Contains (code_addresses (extents_of code)) place word at) mark),
 )
 
 -- a word of one class is no word of another

@@ -5,6 +5,7 @@ use Rattle.std.proofs.lemmas.Bool.{cases_eq, cases_lt}
 use Rattle.std.proofs.lemmas.List.{length-set}
 use Rattle.std.proofs.lemmas.List.Sums.{sum_by-set}
 use Rattle.std.proofs.lemmas.Option.{none-some, same_Some, slice_get_within, slice_get-get_or, get_or_from_slice_get, option_and_then_some}
+use Rattle.rv_code.proofs.LawsOfElements.{set_here, set_elsewhere}
 use Rattle.regen_path.specs.declared.arcs.Ways.{Ways}
 use Rattle.regen_path.specs.declared.growing.Link.{Link}
 use Rattle.regen_path.specs.declared.growing.Link.TheVariants.{Root, Up, Down}
@@ -13,7 +14,7 @@ use Rattle.regen_path.specs.Arcs.{way_by, way_from}
 use Rattle.regen_path.specs.Inner.Growing.{AreNear, IsAbove, same, under, parent_of, IsByDepth, HangsBy, IsNumbered, AreNumbered, WaitsFor, AreWaiting, AreGrowing, IsStep, ahead, behind, WaitMore}
 use Rattle.regen_path.specs.Inner.Sources.{LeadWithin}
 use Rattle.regen_path.proofs.Above.{above_wider}
-use Rattle.regen_path.proofs.Listing.{get_front, get_end, get_either, set_here, set_apart}
+use Rattle.regen_path.proofs.Listing.{get_front, get_end, get_either}
 
 -- one node fewer has no number
 pub one_fewer : (numbers : List (Option ℕ)) (node number : ℕ) → slice_get numbers node ≡ Some None → count_by is_none (slice_set numbers node (Some number)) + 1 ≡ count_by is_none numbers
@@ -64,7 +65,7 @@ module _ {table : List Ways} {visits : List Visit} {numbers : List (Option ℕ)}
   not_fresh node number is equal = none-some number (same_Some None (Some number) (sym fresh ∙ ap (slice_get numbers) (sym equal) ∙ is))
 
   pub keeps : (node number : ℕ) → IsNumbered numbers node number → IsNumbered marked node number
-  keeps node number is = set_apart numbers visit.node node (Some (length visits)) (λ equal. not_fresh node number is equal) ∙ is
+  keeps node number is = set_elsewhere numbers visit.node node (Some (length visits)) (λ equal. not_fresh node number is equal) ∙ is
 
   numbered_either : (node number : ℕ) → IsNumbered marked node number → IsNumbered numbers node number ⊎ ((node ≡ visit.node) × (number ≡ length visits))
   numbered_either node number is = elim (cases_eq node visit.node) [
@@ -72,7 +73,7 @@ module _ {table : List Ways} {visits : List Visit} {numbers : List (Option ℕ)}
       equal,
       sym (same_Some (length visits) number (same_Some (Some (length visits)) (Some number) (sym marked_here ∙ ap (slice_get marked) (sym equal) ∙ is))),
     )
-    | inr differ ↦ inl (sym (set_apart numbers visit.node node (Some (length visits)) differ) ∙ is)
+    | inr differ ↦ inl (sym (set_elsewhere numbers visit.node node (Some (length visits)) differ) ∙ is)
   ]
 
   number_within : (node number : ℕ) → IsNumbered numbers node number → number < length visits

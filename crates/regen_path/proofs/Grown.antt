@@ -8,7 +8,7 @@ use Rattle.regen_path.specs.declared.arcs.Ways.{Ways}
 use Rattle.regen_path.specs.declared.growing.Link.TheVariants.{Root}
 use Rattle.regen_path.specs.declared.growing.Visit.{Visit}
 use Rattle.regen_path.specs.declared.growing.Growth.{Growth}
-use Rattle.regen_path.specs.Inner.Growing.{IsNumbered, AreNumbered, AreGrowing, AreWhole, IsEntered, KeepsNumbers, work_left}
+use Rattle.regen_path.specs.Inner.Growing.{IsNumbered, AreNumbered, AreGrowing, AreWhole, IsEntered, work_left}
 use Rattle.regen_path.specs.Inner.Sources.{LeadWithin}
 use Rattle.regen_path.proofs.Entered.{one_fewer, keeps, marked_here, growing_root, growing_on, growing_past}
 use Rattle.regen_path.proofs.Listing.{get_end}
@@ -131,12 +131,6 @@ module _ (table : List Ways) (growth : Growth) (visit : Visit) (waited : (root :
   pub waited_within : visit.node < length growth.numbers.items
   waited_within = popped_within table growth.visits.items growth.numbers.items growth.waiting.items (growth.waiting.items ++ visit ∷ []) visit waited.0 refl waited.1
 
-  pub waited_left : length growth.visits.items + count_by is_none growth.numbers.items ≡ length table
-  waited_left = waited.1.numbered.left
-
-  pub waited_long : length growth.numbers.items ≡ length table
-  waited_long = waited.1.numbered.long
-
   pub waited_past : (found : Option ℕ) → found ≡ get_or growth.numbers.items visit.node found → is_some found ≡ true → (root : ℕ) × AreGrowing table growth.visits.items growth.numbers.items growth.waiting.items root
   waited_past found read test =
       let (number, is) = some_number_of growth.numbers.items visit.node found waited_within read test in
@@ -148,23 +142,11 @@ module _ (table : List Ways) (growth : Growth) (visit : Visit) (waited : (root :
   pub waited_on : (new : Growth) → LeadWithin table → slice_get growth.numbers.items visit.node ≡ Some None → IsEntered table growth new visit → (root : ℕ) × AreGrowing table new.visits.items new.numbers.items new.waiting.items root
   waited_on new within fresh entered = (waited.0, waited_entered table growth new visit fresh entered within waited.0 (growth.waiting.items ++ visit ∷ []) refl waited.1)
 
-  pub waited_kept : (new : Growth) → slice_get growth.numbers.items visit.node ≡ Some None → IsEntered table growth new visit → KeepsNumbers growth new
-  waited_kept new fresh entered = numbers_kept table growth new visit fresh entered waited.1.numbered
-
 -- what is asked where a root is visited
 module _ (table : List Ways) (growth : Growth) (visit : Visit) (whole : AreWhole table growth) where
-  pub whole_left : length growth.visits.items + count_by is_none growth.numbers.items ≡ length table
-  whole_left = whole.1.numbered.left
-
-  pub whole_long : length growth.numbers.items ≡ length table
-  whole_long = whole.1.numbered.long
-
   pub whole_on : (new : Growth) → LeadWithin table → visit.link ≡ Root → slice_get growth.numbers.items visit.node ≡ Some None → IsEntered table growth new visit
       → (root : ℕ) × AreGrowing table new.visits.items new.numbers.items new.waiting.items root
   whole_on new within link fresh entered = (length growth.visits.items, root_entered table growth new visit fresh entered within link whole.0 whole.1 whole.2)
-
-  pub whole_kept : (new : Growth) → slice_get growth.numbers.items visit.node ≡ Some None → IsEntered table growth new visit → KeepsNumbers growth new
-  whole_kept new fresh entered = numbers_kept table growth new visit fresh entered whole.1.numbered
 
   pub whole_given : (new : Growth) → slice_get growth.numbers.items visit.node ≡ Some None → IsEntered table growth new visit → (number : ℕ) × IsNumbered new.numbers.items visit.node number
   whole_given new fresh entered = (length growth.visits.items, number_given table growth new visit fresh entered whole.1.numbered)

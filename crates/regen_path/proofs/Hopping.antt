@@ -1,12 +1,12 @@
 -- The first arc of the only directed walk.
-use Rattle.std.proofs.Common.{◌≡◌, ◌≢◌, ◌⊎◌, inl, inr, ℕ, zero, suc, ◌<◌, Bool, true, false, cond, eqb, List, [], ◌∷◌, length, Option, Some, None, refl, sym, ap, ◌∙◌, subst, arith}
+use Rattle.std.proofs.Common.{◌≡◌, ◌≢◌, inl, inr, ℕ, zero, suc, ◌<◌, Bool, true, false, cond, eqb, List, [], ◌∷◌, length, Option, Some, None, refl, sym, ap, ◌∙◌, subst, arith}
 use Rattle.std.specs.Prelude.{slice_get, ◌↔◌}
 use Rattle.std.specs.Option.{option_and_then, option_map}
-use Rattle.std.proofs.lemmas.Bool.{cases_eq, eq-eqb, ne_eqb}
+use Rattle.std.proofs.lemmas.Bool.{eq-eqb, ne_eqb}
 use Rattle.std.proofs.lemmas.Option.{none-some, same_Some, slice_get-map}
 use Rattle.std.proofs.lemmas.List.{length-map}
 use Rattle.graph_paths.specs.Paths.{Path, here, over}
-use Rattle.graph_paths.specs.Forests.{HasNoCycle, IsAmong, Trail, IsDirection}
+use Rattle.graph_paths.specs.Forests.{HasNoCycle, IsAmong, Trail}
 use Rattle.graph_paths.proofs.LawsOfPaths.{Path-wider}
 use Rattle.graph_paths.proofs.LawsOfTrails.{Trail-Path, Trail-only}
 use Rattle.regen_path.specs.declared.arcs.Arc.{Arc}
@@ -15,34 +15,11 @@ use Rattle.regen_path.specs.declared.paths.Hop.{Hop}
 use Rattle.regen_path.specs.declared.paths.Hop.TheVariants.{Fall, Taken, Here, NoWay}
 use Rattle.regen_path.specs.declared.paths.Spot.{Spot}
 use Rattle.regen_path.specs.Arcs.{way_by, way_from, HasArc}
-use Rattle.regen_path.specs.Walks.{ArcLeads, ArcJoins, forth, IsWalk, IsOnlyWalk}
+use Rattle.regen_path.specs.Walks.{ArcLeads, ArcJoins, IsWalk, IsOnlyWalk}
 use Rattle.regen_path.specs.Hops.{first_hop}
 use Rattle.regen_path.specs.PathsView.{ways_in, RisesAndSinks, AreSpots}
 use Rattle.regen_path.specs.Inner.Finds.{Finds, at_goal, by_fall, by_taken, nowhere}
-use Rattle.regen_path.proofs.Rooted.{arcs_undirected}
-use Rattle.regen_path.proofs.Tabled.{kind_below}
-
-arcs_direct : IsDirection ArcJoins ArcLeads
-arcs_direct = record {
-  joined = λ arc from to leads. forth leads;
-  one_way = λ arc from to other other_to leads again. (sym leads.0 ∙ again.0, sym leads.1 ∙ again.1);
-}
-
-same_arc : (one two : Arc) → (one ≡ two) ⊎ (one ≢ two)
-same_arc one two = elim (cases_eq one.from two.from) [
-  | inr differ ↦ inr (λ equal. differ (ap (λ (a : Arc). a.from) equal))
-  | inl from ↦ elim (cases_eq one.to two.to) [
-    | inr differ ↦ inr (λ equal. differ (ap (λ (a : Arc). a.to) equal))
-    | inl to ↦ elim (cases_eq one.kind two.kind) [
-      | inr differ ↦ inr (λ equal. differ (ap (λ (a : Arc). a.kind) equal))
-      | inl kind ↦ inl (
-          ap (λ (n : ℕ). record { from = n; to = one.to; kind = one.kind }) from
-          ∙ ap (λ (n : ℕ). record { from = two.from; to = n; kind = one.kind }) to
-          ∙ ap (λ (n : ℕ). record { from = two.from; to = two.to; kind = n }) kind
-          )
-    ]
-  ]
-]
+use Rattle.regen_path.proofs.LawsOfArcs.{arcs_undirected, arcs_direct, same_arc, kind_below}
 
 -- where a path leads, there leads a walk, and the other way round
 path_walk : {set : Arc → Type 0} {from to : ℕ} → Path ArcLeads set from to → (walk : List Arc) × IsWalk set from to walk

@@ -1,3 +1,4 @@
+pub mod LawsOfArcs
 mod Above
 mod Chained
 mod Entered

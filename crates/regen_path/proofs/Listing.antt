@@ -1,6 +1,6 @@
 -- Elements of lists by their places.
-use Rattle.std.proofs.Common.{◌≡◌, ◌≢◌, ◌⊎◌, inl, inr, ℕ, zero, suc, ◌<◌, List, [], ◌∷◌, ◌++◌, length, Some, refl, sym, ap, arith}
-use Rattle.std.specs.Prelude.{slice_get, slice_set}
+use Rattle.std.proofs.Common.{◌≡◌, ◌⊎◌, inl, inr, ℕ, zero, suc, List, [], ◌∷◌, ◌++◌, length, Some, refl, sym, ap}
+use Rattle.std.specs.Prelude.{slice_get}
 use Rattle.std.proofs.lemmas.Option.{none-some, same_Some}
 use Rattle.graph_paths.specs.Forests.{IsAmong}
 
@@ -19,25 +19,6 @@ get_either [] y zero x is = inr (refl, sym (same_Some y x is))
 get_either [] y (suc at) x is = absurd (none-some x is)
 get_either (first ∷ rest) y zero x is = inl is
 get_either (first ∷ rest) y (suc at) x is = elim (get_either rest y at x is) [ inl there ↦ inl there | inr end ↦ inr (ap suc end.0, end.1) ]
-
--- a list after a write
-pub set_here : {X : Type 0} (xs : List X) (place : ℕ) (x : X) → place < length xs → slice_get (slice_set xs place x) place ≡ Some x
-set_here [] place x within = absurd (omega arith)
-set_here (first ∷ xs) zero x within = refl
-set_here (first ∷ xs) (suc place) x within = set_here xs place x (omega arith)
-
-pub set_apart : {X : Type 0} (xs : List X) (place other : ℕ) (x : X) → other ≢ place → slice_get (slice_set xs place x) other ≡ slice_get xs other
-set_apart [] place other x differ = refl
-set_apart (first ∷ xs) zero zero x differ = absurd (differ refl)
-set_apart (first ∷ xs) zero (suc other) x differ = refl
-set_apart (first ∷ xs) (suc place) zero x differ = refl
-set_apart (first ∷ xs) (suc place) (suc other) x differ = set_apart xs place other x (λ same. differ (ap suc same))
-
--- what is among a list stands at a place of it
-pub at_place : {X : Type 0} (xs : List X) (place : ℕ) (x : X) → slice_get xs place ≡ Some x → IsAmong xs x
-at_place [] place x is = absurd (none-some x is)
-at_place (first ∷ xs) zero x is = inl (sym (same_Some first x is))
-at_place (first ∷ xs) (suc place) x is = inr (at_place xs place x is)
 
 pub place_of : {X : Type 0} (xs : List X) (x : X) → IsAmong xs x → (place : ℕ) × (slice_get xs place ≡ Some x)
 place_of [] x is = absurd is

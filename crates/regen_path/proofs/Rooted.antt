@@ -3,7 +3,7 @@ use Rattle.std.proofs.Common.{◌≡◌, ◌≢◌, ◌⊎◌, inl, inr, ℕ, �
 use Rattle.std.specs.Prelude.{slice_get}
 use Rattle.std.proofs.lemmas.Bool.{cases_eq}
 use Rattle.std.proofs.lemmas.Option.{none-some, same_Some, slice_get_within, slice_get-get_or}
-use Rattle.graph_paths.specs.Paths.{Path, here, over, IsUndirected}
+use Rattle.graph_paths.specs.Paths.{Path, here, over}
 use Rattle.graph_paths.specs.Forests.{HasNoCycle}
 use Rattle.graph_paths.proofs.LawsOfPaths.{Path-append, Path-turned}
 use Rattle.regen_path.specs.declared.arcs.Arc.{Arc}
@@ -14,20 +14,7 @@ use Rattle.regen_path.specs.declared.growing.Visit.{Visit}
 use Rattle.regen_path.specs.Arcs.{HasArc}
 use Rattle.regen_path.specs.Walks.{ArcJoins, forth, back}
 use Rattle.regen_path.specs.Inner.Growing.{IsAbove, same, under, parent_of, IsByDepth, HangsBy, AreLinked, IsNumbered, AreNumbered, AreGrowing, IsRooted}
-
--- what an arc joins has no direction
-turned_arc : (arc : Arc) (one other : ℕ) → ArcJoins arc one other → ArcJoins arc other one
-turned_arc arc one other (forth leads) = back leads
-turned_arc arc one other (back leads) = forth leads
-
-same_ends : (arc : Arc) (one other three four : ℕ) → ArcJoins arc one other → ArcJoins arc three four → ((one ≡ three) × (other ≡ four)) ⊎ ((one ≡ four) × (other ≡ three))
-same_ends arc one other three four (forth leads) (forth again) = inl (sym leads.0 ∙ again.0, sym leads.1 ∙ again.1)
-same_ends arc one other three four (forth leads) (back again) = inr (sym leads.0 ∙ again.0, sym leads.1 ∙ again.1)
-same_ends arc one other three four (back leads) (forth again) = inr (sym leads.1 ∙ again.1, sym leads.0 ∙ again.0)
-same_ends arc one other three four (back leads) (back again) = inl (sym leads.1 ∙ again.1, sym leads.0 ∙ again.0)
-
-pub arcs_undirected : IsUndirected ArcJoins
-arcs_undirected = record { turned = turned_arc; ends = same_ends }
+use Rattle.regen_path.proofs.LawsOfArcs.{arcs_undirected}
 
 is_up : (link : Link) (number : ℕ) → (link ≡ Up number) ⊎ (link ≡ Up number → ⊥)
 is_up Root number = inr (λ clash. cc)

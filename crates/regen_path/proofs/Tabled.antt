@@ -1,15 +1,17 @@
 -- The table of where arcs lead, as it is filled.
-use Rattle.std.proofs.Common.{◌≡◌, ◌≢◌, inl, inr, ℕ, zero, suc, ◌+◌, ◌<◌, Bool, true, false, cond, eqb, List, length, get_or, set, replicate, Option, Some, None, refl, sym, ap, ◌∙◌, subst, arith, length-set}
+use Rattle.std.proofs.Common.{◌≡◌, ◌≢◌, inl, inr, ℕ, zero, suc, ◌+◌, ◌<◌, Bool, true, false, cond, eqb, List, length, get_or, set, replicate, Some, None, refl, sym, ap, ◌∙◌, subst, arith, length-set}
 use Rattle.std.specs.Prelude.{slice_get}
 use Rattle.std.specs.Option.{option_and_then}
 use Rattle.std.proofs.lemmas.Bool.{cases_eq, cases_lt, ne_eqb}
 use Rattle.std.proofs.lemmas.List.{get_or-replicate, length-replicate}
 use Rattle.std.proofs.lemmas.Option.{none-some, same_Some, slice_get_within, slice_get-get_or, get_or_from_slice_get, option_and_then_some}
 use Rattle.graph_paths.specs.Forests.{IsAmong}
+use Rattle.graph_paths.proofs.LawsOfMembers.{among_place}
+use Rattle.rv_code.proofs.LawsOfElements.{set_here, set_elsewhere}
 use Rattle.regen_path.specs.declared.arcs.Arc.{Arc}
 use Rattle.regen_path.specs.declared.arcs.Ways.{Ways}
 use Rattle.regen_path.specs.Arcs.{way_by, way_from, HasArc, AreWays}
-use Rattle.regen_path.proofs.Listing.{set_here, set_apart, at_place, place_of}
+use Rattle.regen_path.proofs.Listing.{place_of}
 
 abbrev pub no_ways : Ways
 no_ways = record { fall = None; taken = None }
@@ -64,7 +66,7 @@ module _ (arcs : List Arc) (count : ℕ) (ends : (arc : Arc) → IsAmong arcs ar
   table_now = set table arc.from (with_way ways arc.kind arc.to)
 
   among : IsAmong arcs arc
-  among = at_place arcs at arc is_arc
+  among = among_place arcs at arc is_arc
 
   read_here : (kind from : ℕ) → from ≡ arc.from → way_from table_now kind from ≡ way_by (with_way ways arc.kind arc.to) kind
   read_here kind from equal =
@@ -75,7 +77,7 @@ module _ (arcs : List Arc) (count : ℕ) (ends : (arc : Arc) → IsAmong arcs ar
   was_here kind from equal = ap (λ (n : ℕ). way_from table kind n) equal ∙ ap (option_and_then (λ (w : Ways). way_by w kind)) is_ways
 
   read_apart : (kind from : ℕ) → from ≢ arc.from → way_from table_now kind from ≡ way_from table kind from
-  read_apart kind from differ = ap (option_and_then (λ (w : Ways). way_by w kind)) (set_apart table arc.from from (with_way ways arc.kind arc.to) differ)
+  read_apart kind from differ = ap (option_and_then (λ (w : Ways). way_by w kind)) (set_elsewhere table arc.from from (with_way ways arc.kind arc.to) differ)
 
   has_it : HasArc table_now arc
   has_it = read_here arc.kind arc.from refl ∙ with_same ways arc.kind arc.to (kinds arc among)
@@ -93,7 +95,7 @@ module _ (arcs : List Arc) (count : ℕ) (ends : (arc : Arc) → IsAmong arcs ar
   some_more = record {
     long = length-set table arc.from (with_way ways arc.kind arc.to) ∙ has.long;
     done = λ place other less is. elim (cases_lt place at) [
-      | inl earlier ↦ still other (at_place arcs place other is) (has.done place other earlier is)
+      | inl earlier ↦ still other (among_place arcs place other is) (has.done place other earlier is)
       | inr later ↦
           let equal : at ≡ place = omega arith in
           subst (HasArc table_now) (same_Some arc other (sym is_arc ∙ ap (slice_get arcs) equal ∙ is)) has_it
@@ -119,14 +121,3 @@ some_all arcs count table has = record {
 -- the row of a node, read from the table
 pub way_read : (table : List Ways) (kind node : ℕ) → node < length table → way_from table kind node ≡ way_by (get_or table node no_ways) kind
 way_read table kind node within = ap (option_and_then (λ (ways : Ways). way_by ways kind)) (slice_get-get_or table node no_ways within)
-
--- an arc has one of two kinds
-pub kind_below : (table : List Ways) (kind from to : ℕ) → way_from table kind from ≡ Some to → kind < 2
-kind_below table zero from to is = omega arith
-kind_below table (suc zero) from to is = omega arith
-kind_below table (suc (suc kind)) from to is = absurd (no_way (slice_get table from) is)
-  where
-    no_way : (found : Option Ways) → option_and_then (λ (ways : Ways). way_by ways (suc (suc kind))) found ≡ Some to → ⊥
-    no_way None is = none-some to is
-    no_way (Some ways) is = none-some to (sym (ap (λ b. cond b ways.fall (cond (eqb (suc (suc kind)) 1) ways.taken None)) (ne_eqb (suc (suc kind)) 0 (λ equal. absurd (omega arith)))
-        ∙ ap (λ b. cond b ways.taken None) (ne_eqb (suc (suc kind)) 1 (λ equal. absurd (omega arith)))) ∙ is)

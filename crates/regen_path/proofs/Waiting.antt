@@ -12,8 +12,9 @@ use Rattle.regen_path.specs.Inner.Growing.{ahead_of, AreNear, WaitsFor, IsStep, 
 use Rattle.regen_path.specs.Inner.Sources.{IsLastInto, IsFoundBy}
 use Rattle.regen_path.proofs.Chained.{get_or_any}
 use Rattle.regen_path.proofs.Entered.{from_within}
-use Rattle.regen_path.proofs.Tabled.{no_ways, way_read, kind_below}
+use Rattle.regen_path.proofs.Tabled.{no_ways, way_read}
 use Rattle.regen_path.proofs.Listing.{get_front, get_end, get_either}
+use Rattle.regen_path.proofs.LawsOfArcs.{kind_below}
 
 module _ {table : List Ways} {node number : ℕ} where
   pub wait_none : (waiting : List Visit) → WaitMore table node number waiting waiting

@@ -1,20 +1,17 @@
 -- A walk begins before the entry.
-use Rattle.std.proofs.Common.{◌≡◌, true, Option, Some, None, refl, ap, ◌∙◌}
-use Rattle.std.specs.Prelude.{is_some, slice_get}
+use Rattle.std.proofs.Common.{◌≡◌, Option, ap, ◌∙◌}
+use Rattle.std.specs.Prelude.{slice_get}
 use Rattle.std.specs.Option.{option_and_then, option_map_or}
 use Rattle.std.proofs.lemmas.Option.{slice_get-get_or}
 use Rattle.rv_code.specs.Places.{place_of}
 use Rattle.rv_code.proofs.LawsOfLookUps.{is_some-place_of}
+use Rattle.rv_code.proofs.LawsOfTests.{some_there}
 use Rattle.schema_form.specs.declared.word.SchemaWord.{SchemaWord}
 use Rattle.schema_form.specs.SchemaParts.{SchemaParts}
 use Rattle.schema_form.specs.Valid.{IsSchema}
 use Rattle.regen_walk.specs.declared.position.Position.TheVariants.{Before, Outside}
 use Rattle.regen_walk.specs.Moves.{placed_at}
 use Rattle.regen_walk.proofs.WordsMet.{place_within}
-
-some_there : {X : Type 0} (o : Option X) → is_some o ≡ true → (x : X) × (o ≡ Some x)
-some_there None is = absurd (cc is)
-some_there (Some x) is = (x, refl)
 
 pub entry_placed : (parts : SchemaParts) → IsSchema parts → placed_at parts parts.entry ≡ Before parts.entry
 entry_placed parts valid =

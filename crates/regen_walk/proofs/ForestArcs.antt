@@ -1,11 +1,12 @@
 -- The arcs of a schema are those of a forest.
-use Rattle.std.proofs.Common.{◌≡◌, ◌≢◌, ◌⊎◌, inl, inr, ℕ, zero, suc, ◌+◌, ◌<◌, Bool, true, false, cond, List, [], ◌∷◌, ◌++◌, length, Option, Some, None, refl, sym, ap, subst, ◌∙◌, arith}
+use Rattle.std.proofs.Common.{◌≡◌, ◌≢◌, ◌⊎◌, inl, inr, ℕ, zero, suc, ◌+◌, ◌<◌, Bool, true, false, cond, List, [], ◌∷◌, length, Option, Some, None, refl, sym, ap, subst, ◌∙◌, arith}
 use Rattle.std.specs.Prelude.{slice_get, flat_map}
 use Rattle.std.specs.List.{cons_option, range_with_len}
 use Rattle.std.specs.Option.{option_map, option_map_or}
 use Rattle.std.proofs.lemmas.List.Sums.{sum-map}
 use Rattle.graph_paths.specs.Paths.{Path, here, over}
 use Rattle.graph_paths.specs.Forests.{HasNoCycle, IsAmong}
+use Rattle.graph_paths.proofs.LawsOfMembers.{among_either, among_place}
 use Rattle.rv_code.specs.declared.class.Class.{Class}
 use Rattle.rv_code.specs.declared.extent.Extent.{Extent}
 use Rattle.rv_code.specs.Places.{address_of, place_of}
@@ -32,23 +33,13 @@ among_one None rest x is = inr is
 among_one (Some y) rest x (inl is) = inl (ap (λ z. Some z) (sym is))
 among_one (Some y) rest x (inr is) = inr is
 
-among_append : {X : Type 0} (xs ys : List X) (x : X) → IsAmong (xs ++ ys) x → IsAmong xs x ⊎ IsAmong ys x
-among_append [] ys x is = inr is
-among_append (y ∷ xs) ys x (inl is) = inl (inl is)
-among_append (y ∷ xs) ys x (inr is) = elim (among_append xs ys x is) [ inl front ↦ inl (inr front) | inr behind ↦ inr behind ]
-
 -- what is among rows is in one of them
 among_rows : {X : Type 0} (f : ℕ → List X) (from count : ℕ) (x : X) → IsAmong (flat_map f (range_with_len from count)) x → (k : ℕ) × (k < from + count) × IsAmong (f k) x
 among_rows f from zero x is = absurd is
-among_rows f from (suc count) x is = elim (among_append (f from) (flat_map f (range_with_len (from + 1) count)) x is) [
+among_rows f from (suc count) x is = elim (among_either (f from) (flat_map f (range_with_len (from + 1) count)) x is) [
   | inl front ↦ (from, omega arith, front)
   | inr behind ↦ let (k, less, is_in) = among_rows f (from + 1) count x behind in (k, omega (arith, less), is_in)
 ]
-
-among_place : {X : Type 0} (xs : List X) (k : ℕ) (x : X) → slice_get xs k ≡ Some x → IsAmong xs x
-among_place [] k x is = absurd (cc is)
-among_place (y ∷ xs) zero x is = inl (let same : y ≡ x = cc is in sym same)
-among_place (y ∷ xs) (suc k) x is = inr (among_place xs k x is)
 
 place_within : {X : Type 0} (xs : List X) (k : ℕ) (x : X) → slice_get xs k ≡ Some x → k < length xs
 place_within [] k x is = absurd (cc is)

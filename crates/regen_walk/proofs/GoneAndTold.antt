@@ -2,6 +2,7 @@
 use Rattle.std.proofs.Common.{◌≡◌, ℕ, ◌+◌, Bool, true, List, [], ◌∷◌, ◌++◌, length, map, take, append_assoc, Some, refl, sym, ap, subst, ◌∙◌, arith}
 use Rattle.std.proofs.lemmas.List.{length-append, map-append, take-append-le}
 use Rattle.std.proofs.Math.Seq.{take-append-add}
+use Rattle.rv_code.proofs.LawsOfTests.{some_there}
 use Rattle.ae_nums.specs.declared.item.Item.{Item}
 use Rattle.rv_machine.specs.Outcomes.{TookFront}
 use Rattle.ev_format.specs.declared.record.Record.{Record}
@@ -16,7 +17,7 @@ use Rattle.regen_walk.specs.Moves.{Moved}
 use Rattle.regen_walk.specs.Promises.{IsBrokenOff, Tells}
 use Rattle.regen_walk.specs.Walks.{behind_items, walk_from}
 use Rattle.regen_walk.specs.WalkView.{WalkParts}
-use Rattle.regen_walk.proofs.Reached.{last_ways, there_is}
+use Rattle.regen_walk.proofs.Reached.{last_ways}
 use Rattle.regen_walk.proofs.Towards.{walk_both}
 
 -- the moves from before the record's word
@@ -49,7 +50,7 @@ module _ (parts : SchemaParts) (walk : List Arc) (from to : ℕ) (there : List �
   pub broken_going : (start : WalkParts) (took : List Item → Type 0) → GoesAlong parts walk from to start.registers there items → may_tell parts to there rec ≡ true → TookFront took items
       → IsBrokenOff parts (Before from) start rec took
   broken_going start took goes may front =
-      let told = there_is (walk_from parts (Before to) there (last_moves rec)) may in
+      let told = some_there (walk_from parts (Before to) there (last_moves rec)) may in
       record {
         moved = behind_items items told.0;
         tells = tells_so start.registers told.0 goes told.1;

@@ -11,6 +11,7 @@ mod Gave
 mod GoneAndTold
 mod Hops
 mod Linked
+mod OneTrace
 mod OneWalk
 mod Onward
 mod Passing

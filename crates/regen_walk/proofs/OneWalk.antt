@@ -5,6 +5,7 @@ use Rattle.std.specs.Option.{option_and_then, option_map}
 use Rattle.rv_machine.specs.Start.{first_registers}
 use Rattle.graph_paths.specs.Forests.{IsAmong}
 use Rattle.rv_code.specs.Places.{place_of}
+use Rattle.rv_code.proofs.LawsOfTests.{some_there}
 use Rattle.ev_format.specs.declared.record.Record.{Record}
 use Rattle.regen_path.specs.declared.arcs.Arc.{Arc}
 use Rattle.regen_path.specs.Walks.{IsWalk}
@@ -24,7 +25,7 @@ use Rattle.regen_walk.specs.Walks.{behind_items, walk_from}
 use Rattle.regen_walk.proofs.Crossed.{tell_free}
 use Rattle.regen_walk.proofs.Elsewhere.{not_first}
 use Rattle.regen_walk.proofs.ForestArcs.{forest_of}
-use Rattle.regen_walk.proofs.Reached.{edge_first, first_move, last_ways, quiet_named, reaches, there_is}
+use Rattle.regen_walk.proofs.Reached.{edge_first, first_move, last_ways, quiet_named, reaches}
 use Rattle.regen_walk.proofs.Shortness.{only_walk}
 use Rattle.regen_walk.proofs.Steps.{move_from_outside, move_from_stopped, move_placed_after, move_placed_before}
 use Rattle.regen_walk.proofs.WordsMet.{met_of}
@@ -64,7 +65,7 @@ pub front_made : (parts : SchemaParts) (labels more : List Label) (position : Po
     → (first : Moved) × (walk_from parts position registers labels ≡ Some first) × IsSome (walk_from parts first.position first.registers more)
 front_made parts [] more position registers made = (record { items = []; position = position; registers = registers }, refl, made)
 front_made parts (label ∷ labels) more position registers made =
-    let all = there_is (walk_from parts position registers (label ∷ (labels ++ more))) made in
+    let all = some_there (walk_from parts position registers (label ∷ (labels ++ more))) made in
     let b = first_move parts position registers label (labels ++ more) all.0 all.1 in
     let r = front_made parts labels more b.first.position b.first.registers (ap is_some b.behind) in (
       behind_items b.first.items r.0,

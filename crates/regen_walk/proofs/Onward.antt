@@ -11,6 +11,7 @@ use Rattle.regen_path.specs.declared.arcs.Arc.{Arc}
 use Rattle.regen_path.specs.declared.arcs.Ways.{Ways}
 use Rattle.regen_path.specs.Arcs.{AreWays, HasArc, way_from}
 use Rattle.regen_path.specs.Walks.{ArcLeads, IsWalk}
+use Rattle.regen_path.proofs.LawsOfArcs.{kind_below}
 use Rattle.schema_form.specs.SchemaParts.{SchemaParts}
 use Rattle.schema_form.specs.Valid.{IsSchema}
 use Rattle.regen_walk.specs.declared.met.Spot.{Spot}
@@ -21,7 +22,7 @@ use Rattle.regen_walk.specs.Inner.Met.{IsSpot}
 use Rattle.regen_walk.specs.Inner.OnTheWay.{IsOnTheWay}
 use Rattle.regen_walk.specs.Labels.{Quiet}
 use Rattle.regen_walk.specs.Walks.{walk_from}
-use Rattle.regen_walk.proofs.Hops.{kind_by_way, kind_low}
+use Rattle.regen_walk.proofs.Hops.{kind_by_way}
 use Rattle.regen_walk.proofs.Passing.{quiet_step, goes_over}
 use Rattle.regen_walk.proofs.Shortness.{walks_same}
 use Rattle.regen_walk.proofs.Towards.{forest_in, labels_both, walk_both}
@@ -57,7 +58,7 @@ module _ (parts : SchemaParts) (valid : IsSchema parts) (ways : List Ways) (are 
   may_go (arc ∷ walk) spot there before walks =
       let led = walks.trail.1 in
       let has = walks.within arc (inl refl) in
-      let kind = kind_by_way arc.kind (kind_low ways arc.kind arc.from arc.to has) in
+      let kind = kind_by_way arc.kind (kind_below ways arc.kind arc.from arc.to has) in
       let way : way_from ways (kind_number (eqb arc.kind 1)) spot.place ≡ Some arc.to =
       ap (λ (k : ℕ). way_from ways k spot.place) (sym kind) ∙ ap (way_from ways arc.kind) (sym led.0) ∙ has
       in

@@ -10,6 +10,7 @@ use Rattle.rv_code.specs.declared.class.Class.TheVariants.{Plain, Load, Store, B
 use Rattle.rv_code.specs.Places.{place_of}
 use Rattle.rv_code.specs.Table.{meaning_of}
 use Rattle.rv_code.proofs.LawsOfLookUps.{is_some-place_of}
+use Rattle.rv_code.proofs.LawsOfTests.{some_there}
 use Rattle.ev_format.specs.declared.record.Record.{Record}
 use Rattle.ev_format.specs.declared.record.Record.TheVariants as records
 use Rattle.ev_format.specs.Shapes.{value_count}
@@ -192,10 +193,6 @@ over_there false f way moved is = absurd (cc is)
 over_there true f None moved is = absurd (cc is)
 over_there true f (Some target) moved is = (refl, target, refl)
 
-pub there_is : {X : Type 0} (o : Option X) → is_some o ≡ true → (x : X) × (o ≡ Some x)
-there_is None is = absurd (cc is)
-there_is (Some x) is = (x, refl)
-
 module _ (parts : SchemaParts) (valid : IsSchema parts) (spot : Spot) (there : IsSpot parts spot) (met : Met) (is : IsMet parts spot.address met) where
   -- a word that goes on without a record is then before the edge of its way
   quiet_first : (taken : Bool) (registers : List ℕ) (labels : List Label) (moved : Moved) → walk_from parts (Before spot.address) registers (Quiet taken ∷ labels) ≡ Some moved
@@ -226,7 +223,7 @@ module _ (parts : SchemaParts) (valid : IsSchema parts) (spot : Spot) (there : I
       let e = edge_first taken f.1 (Quiet way) labels f.2 f.3 in
       let n = quiet_named spot.address taken (is_set (witness_mark taken) met.word.flags) way e.0 in
       let code = is_some-place_of parts.stretches e.1 valid.stretches.extents.each ∙ is.inner taken e.1 e.2 n.0 in
-      let to = there_is (place_of parts.stretches e.1) code in
+      let to = some_there (place_of parts.stretches e.1) code in
       (n.1, to.0, record { quiet = f.0; free = n.0; target = e.1; way = e.2; to = to.1 })
 
   -- the record of the word, or of the edge behind it

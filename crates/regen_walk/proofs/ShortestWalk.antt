@@ -2,6 +2,7 @@
 use Rattle.std.proofs.Common.{◌≡◌, ◌≤◌, Bool, List, [], ◌∷◌, ◌++◌, length, Some, refl, sym, ap, subst, ◌∙◌, arith}
 use Rattle.std.specs.Prelude.{IsSome, is_some}
 use Rattle.std.proofs.lemmas.List.{append-nil, length-append}
+use Rattle.rv_code.proofs.LawsOfTests.{some_there}
 use Rattle.ae_nums.specs.declared.item.Item.{Item}
 use Rattle.rv_machine.specs.Start.{first_registers}
 use Rattle.ev_format.specs.declared.record.Record.{Record}
@@ -13,7 +14,6 @@ use Rattle.regen_walk.specs.Laws.{ExplainedHaveItems, HaveItems, ShortestEndsWit
 use Rattle.regen_walk.specs.Moves.{Moved}
 use Rattle.regen_walk.specs.Walks.{AreItemsOf, Explains, IsExplained, IsShortest, walk_of}
 use Rattle.regen_walk.proofs.OneWalk.{front_made, same_walk}
-use Rattle.regen_walk.proofs.Reached.{there_is}
 
 -- what is behind the last record
 pub record Tailed (labels up : List Label) : Type 0 where
@@ -79,7 +79,7 @@ ends_there parts records labels shortest =
     t.all ∙ ap (λ (tail : List Label). up_to_last labels ++ tail) (no_tail t.tail none) ∙ append-nil (up_to_last labels)
 
 module _ (parts : SchemaParts) (valid : IsSchema parts) (records : List Record) where
-  one_items : (one other : List Item) → AreItemsOf parts records one → AreItemsOf parts records other → one ≡ other
+  pub one_items : (one other : List Item) → AreItemsOf parts records one → AreItemsOf parts records other → one ≡ other
   one_items one other are also =
       let labels : are.labels ≡ also.labels =
       ends_there parts records are.labels are.shortest ∙ same_walk parts valid records are.labels also.labels are.shortest.explains also.shortest.explains
@@ -91,7 +91,7 @@ module _ (parts : SchemaParts) (valid : IsSchema parts) (records : List Record) 
   has_items : IsExplained parts records → HaveItems parts records
   has_items explained =
       let shortest = shortest_up parts valid records explained.0 explained.1 in
-      let moved = there_is (walk_of parts (up_to_last explained.0)) shortest.explains.made in
+      let moved = some_there (walk_of parts (up_to_last explained.0)) shortest.explains.made in
       let are : AreItemsOf parts records moved.0.items = record { labels = up_to_last explained.0; shortest = shortest; moved = moved.0; made = moved.1; items_of = refl } in
       record { items = moved.0.items; are = are; only = λ other also. one_items other moved.0.items also are }
 

@@ -1,54 +1,19 @@
 -- In a forest two walks between the same places are the same, and a walk has no more arcs than there are nodes.
-use Rattle.std.proofs.Common.{◌≡◌, ◌≢◌, ◌⊎◌, inl, inr, ℕ, ◌<◌, ◌≤◌, true, false, eqb, List, [], ◌∷◌, length, map, Option, Some, None, refl, sym, ap, subst, ◌∙◌, arith}
+use Rattle.std.proofs.Common.{◌≡◌, inl, inr, ℕ, ◌<◌, ◌≤◌, true, false, eqb, List, [], ◌∷◌, length, map, Option, Some, None, refl, sym, ap, subst, ◌∙◌, arith}
 use Rattle.std.specs.Prelude.{◌||◌, slice_get}
 use Rattle.std.specs.List.{AllByRecursion, IsDistinct, list_any}
 use Rattle.std.specs.Option.{option_and_then}
-use Rattle.std.proofs.lemmas.Bool.{cases_Bool, cases_eq, eqb-true, ne_eqb}
+use Rattle.std.proofs.lemmas.Bool.{cases_Bool, eqb-true, ne_eqb}
 use Rattle.std.proofs.lemmas.List.{length-map}
 use Rattle.std.proofs.lemmas.Map.Steps.{length-le_from_distinct_below}
 use Rattle.std.proofs.lemmas.Option.{slice_get_within}
-use Rattle.graph_paths.specs.Paths.{IsUndirected}
-use Rattle.graph_paths.specs.Forests.{HasNoCycle, IsAmong, Trail, IsDirection}
+use Rattle.graph_paths.specs.Forests.{HasNoCycle, IsAmong, Trail}
 use Rattle.graph_paths.proofs.LawsOfTrails.{Trail-only, Trail-up_to}
 use Rattle.regen_path.specs.declared.arcs.Arc.{Arc}
 use Rattle.regen_path.specs.declared.arcs.Ways.{Ways}
 use Rattle.regen_path.specs.Arcs.{way_by, HasArc}
-use Rattle.regen_path.specs.Walks.{ArcLeads, ArcJoins, forth, back, IsWalk}
-
-turned_arc : (arc : Arc) (one other : ℕ) → ArcJoins arc one other → ArcJoins arc other one
-turned_arc arc one other (forth leads) = back leads
-turned_arc arc one other (back leads) = forth leads
-
-same_ends : (arc : Arc) (one other three four : ℕ) → ArcJoins arc one other → ArcJoins arc three four → ((one ≡ three) × (other ≡ four)) ⊎ ((one ≡ four) × (other ≡ three))
-same_ends arc one other three four (forth leads) (forth again) = inl (sym leads.0 ∙ again.0, sym leads.1 ∙ again.1)
-same_ends arc one other three four (forth leads) (back again) = inr (sym leads.0 ∙ again.0, sym leads.1 ∙ again.1)
-same_ends arc one other three four (back leads) (forth again) = inr (sym leads.1 ∙ again.1, sym leads.0 ∙ again.0)
-same_ends arc one other three four (back leads) (back again) = inl (sym leads.1 ∙ again.1, sym leads.0 ∙ again.0)
-
-arcs_undirected : IsUndirected ArcJoins
-arcs_undirected = record { turned = turned_arc; ends = same_ends }
-
-arcs_direct : IsDirection ArcJoins ArcLeads
-arcs_direct = record {
-  joined = λ arc from to leads. forth leads;
-  one_way = λ arc from to other other_to leads again. (sym leads.0 ∙ again.0, sym leads.1 ∙ again.1);
-}
-
-same_arc : (one two : Arc) → (one ≡ two) ⊎ (one ≢ two)
-same_arc one two = elim (cases_eq one.from two.from) [
-  | inr differ ↦ inr (λ equal. differ (ap (λ (a : Arc). a.from) equal))
-  | inl from ↦ elim (cases_eq one.to two.to) [
-    | inr differ ↦ inr (λ equal. differ (ap (λ (a : Arc). a.to) equal))
-    | inl to ↦ elim (cases_eq one.kind two.kind) [
-      | inr differ ↦ inr (λ equal. differ (ap (λ (a : Arc). a.kind) equal))
-      | inl kind ↦ inl (
-          ap (λ (n : ℕ). record { from = n; to = one.to; kind = one.kind }) from
-          ∙ ap (λ (n : ℕ). record { from = two.from; to = n; kind = one.kind }) to
-          ∙ ap (λ (n : ℕ). record { from = two.from; to = two.to; kind = n }) kind
-          )
-    ]
-  ]
-]
+use Rattle.regen_path.specs.Walks.{ArcLeads, ArcJoins, IsWalk}
+use Rattle.regen_path.proofs.LawsOfArcs.{arcs_undirected, arcs_direct, same_arc}
 
 pub only_walk : (set : Arc → Type 0) → HasNoCycle ArcJoins set → (from to : ℕ) (mine theirs : List Arc) → IsWalk set from to mine → IsWalk set from to theirs → mine ≡ theirs
 only_walk set forest from to mine theirs walks others = Trail-only arcs_undirected arcs_direct same_arc set forest mine theirs from to walks.within others.within walks.trail others.trail

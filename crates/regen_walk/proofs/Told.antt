@@ -7,6 +7,7 @@ use Rattle.rv_code.specs.declared.instr.Instr.{Instr}
 use Rattle.rv_code.specs.declared.instr.Instr.TheVariants.{Lui, Auipc, Jal, Jalr, Branch, Load, Store, OpImm, Op, Fence, Ecall, Ebreak, Bad}
 use Rattle.rv_code.specs.Parts.{base_of}
 use Rattle.rv_code.specs.Table.{meaning_of}
+use Rattle.rv_code.proofs.LawsOfTests.{none_there}
 use Rattle.ev_format.specs.declared.record.Record.{Record}
 use Rattle.ev_format.specs.declared.record.Record.TheVariants as records
 use Rattle.ev_format.specs.Shapes.{value_count}
@@ -107,10 +108,6 @@ end_alone Ecall kind detail one other is = refl
 end_alone Ebreak kind detail one other is = refl
 end_alone (Bad word) kind detail one other is = refl
 
-no_base : (o : Option ℕ) → is_some o ≡ false → o ≡ None
-no_base None is = refl
-no_base (Some register) is = absurd (cc is)
-
 module _ (parts : SchemaParts) (at : ℕ) (met : Met) (is : IsMet parts at met) (one other : List ℕ) where
   edge_alone : (from : ℕ) → at ≡ from → (taken : Bool)
       → is_some (walk_from parts (Before at) one (Quiet taken ∷ Tell (edge_record taken from) ∷ [])) ≡ is_some (walk_from parts (Before at) other (Quiet taken ∷ Tell (edge_record taken from) ∷ []))
@@ -128,5 +125,5 @@ module _ (parts : SchemaParts) (at : ℕ) (met : Met) (is : IsMet parts at met) 
   tells_alone (records.Landing from target values) same base = tells_landing parts at met is one from target values same ∙ sym (tells_landing parts at met is other from target values same)
   tells_alone (records.End from kind detail) same base =
       tells_end parts at met is one from kind detail same
-      ∙ ap (λ b. may_stop met.class && b) (end_alone (meaning_of met.word.raw) kind detail one other (no_base (base_of (meaning_of met.word.raw)) (base from kind detail refl)))
+      ∙ ap (λ b. may_stop met.class && b) (end_alone (meaning_of met.word.raw) kind detail one other (none_there (base_of (meaning_of met.word.raw)) (base from kind detail refl)))
       ∙ sym (tells_end parts at met is other from kind detail same)

@@ -1,15 +1,17 @@
 -- Moves without a record follow the arcs.
-use Rattle.std.proofs.Common.{◌≡◌, inl, inr, ℕ, zero, suc, ◌+◌, ◌<◌, ◌≤◌, Bool, true, false, cond, List, [], ◌∷◌, ◌++◌, length, Option, Some, None, sym, ap, subst, ◌∙◌, arith}
+use Rattle.std.proofs.Common.{◌≡◌, inl, inr, ℕ, zero, suc, ◌+◌, ◌<◌, ◌≤◌, Bool, true, false, cond, List, [], ◌∷◌, length, Option, Some, None, sym, ap, subst, ◌∙◌, arith}
 use Rattle.std.specs.Prelude.{slice_get, flat_map}
 use Rattle.std.specs.List.{cons_option, range_with_len}
 use Rattle.std.specs.Option.{option_map, option_map_or}
 use Rattle.std.proofs.lemmas.Bool.{cases_eq}
 use Rattle.graph_paths.specs.Forests.{IsAmong}
+use Rattle.graph_paths.proofs.LawsOfMembers.{among_front, among_end}
 use Rattle.rv_code.specs.declared.class.Class.{Class}
 use Rattle.rv_code.specs.Places.{address_of, place_of}
 use Rattle.rv_code.proofs.LawsOfLookUps.{address_of-place_of}
 use Rattle.flow_graph.specs.declared.edge.Edge.{Edge}
 use Rattle.flow_graph.specs.Edges.{kind_by}
+use Rattle.flow_graph.proofs.LawsOfEdges.{taken_again}
 use Rattle.regen_path.specs.declared.arcs.Arc.{Arc}
 use Rattle.schema_form.specs.declared.word.SchemaWord.{SchemaWord}
 use Rattle.schema_form.specs.FreeEdges.{free_edge, free_edges, free_edges_as, free_edges_at, free_edges_of}
@@ -21,7 +23,6 @@ use Rattle.regen_walk.specs.declared.met.Spot.{Spot}
 use Rattle.regen_walk.specs.FreeArcs.{goes_quietly, kind_number, quiet_arc, quiet_arcs, quiet_arcs_among, word_goes_quietly}
 use Rattle.regen_walk.specs.Inner.Met.{IsMet, IsSpot}
 use Rattle.regen_walk.specs.Moves.{is_kept}
-use Rattle.flow_graph.proofs.LawsOfEdges.{taken_again}
 use Rattle.regen_walk.proofs.Passing.{QuietStep, word_there}
 use Rattle.regen_walk.proofs.WordsMet.{place_within}
 
@@ -33,20 +34,11 @@ among_first : {X : Type 0} (first : Option X) (rest : List X) (x : X) → first 
 among_first None rest x is = absurd (cc is)
 among_first (Some y) rest x is = inl (let same : y ≡ x = cc is in sym same)
 
-among_left : {X : Type 0} (xs ys : List X) (x : X) → IsAmong xs x → IsAmong (xs ++ ys) x
-among_left [] ys x is = absurd is
-among_left (y ∷ xs) ys x (inl is) = inl is
-among_left (y ∷ xs) ys x (inr is) = inr (among_left xs ys x is)
-
-among_right : {X : Type 0} (xs ys : List X) (x : X) → IsAmong ys x → IsAmong (xs ++ ys) x
-among_right [] ys x is = is
-among_right (y ∷ xs) ys x is = inr (among_right xs ys x is)
-
 in_row : {X : Type 0} (f : ℕ → List X) (k from count : ℕ) (x : X) → from ≤ k → k < from + count → IsAmong (f k) x → IsAmong (flat_map f (range_with_len from count)) x
 in_row f k from zero x low high is = absurd (omega (arith, low, high))
 in_row f k from (suc count) x low high is = elim (cases_eq k from) [
-  | inl same ↦ among_left (f from) (flat_map f (range_with_len (from + 1) count)) x (subst (λ (n : ℕ). IsAmong (f n) x) same is)
-  | inr apart ↦ among_right (f from) (flat_map f (range_with_len (from + 1) count)) x (in_row f k (from + 1) count x (omega (arith, low, apart)) (omega (arith, high)) is)
+  | inl same ↦ among_front (f from) (flat_map f (range_with_len (from + 1) count)) x (subst (λ (n : ℕ). IsAmong (f n) x) same is)
+  | inr apart ↦ among_end (f from) (flat_map f (range_with_len (from + 1) count)) x (in_row f k (from + 1) count x (omega (arith, low, apart)) (omega (arith, high)) is)
 ]
 
 among_quiet : (words : List SchemaWord) (edges : List Edge) (edge : Edge) (arc : Arc) → IsAmong edges edge → quiet_arc words edge ≡ Some arc → IsAmong (quiet_arcs_among words edges) arc
@@ -61,9 +53,6 @@ module _ (parts : SchemaParts) (valid : IsSchema parts) (spot : Spot) (there : I
   abbrev arc_to : (taken : Bool) (place : ℕ) → Arc
   arc_to taken place = record { from = spot.place; to = place; kind = kind_number taken }
 
-  at_place : slice_get parts.words spot.place ≡ Some met.word
-  at_place = word_there parts valid spot there met is
-
   edge_free : (taken : Bool) (place : ℕ) (q : QuietStep parts spot.address met taken place)
       → free_edge parts.stretches taken met.class met.word spot.place spot.address ≡ Some (edge_to taken q.target)
   edge_free taken place q =
@@ -71,7 +60,7 @@ module _ (parts : SchemaParts) (valid : IsSchema parts) (spot : Spot) (there : I
 
   edges_here : free_edges_at parts.stretches parts.words spot.place ≡ free_edges_as parts.stretches met.word spot.place spot.address met.class
   edges_here =
-      ap (λ (o : Option SchemaWord). option_map_or (λ (word : SchemaWord). option_map_or (free_edges_of parts.stretches spot.place word) (address_of parts.stretches spot.place) []) o []) at_place
+      ap (λ (o : Option SchemaWord). option_map_or (λ (word : SchemaWord). option_map_or (free_edges_of parts.stretches spot.place word) (address_of parts.stretches spot.place) []) o []) (word_there parts valid spot there met is)
       ∙ ap (λ (o : Option ℕ). option_map_or (free_edges_of parts.stretches spot.place met.word) o []) (address_of-place_of parts.stretches spot.place spot.address there)
       ∙ ap (λ (o : Option Class). option_map_or (free_edges_as parts.stretches met.word spot.place spot.address) o []) is.named
 
@@ -92,7 +81,7 @@ module _ (parts : SchemaParts) (valid : IsSchema parts) (spot : Spot) (there : I
   arc_made : (taken : Bool) (place : ℕ) (q : QuietStep parts spot.address met taken place) → quiet_arc parts.words (edge_to taken q.target) ≡ Some (arc_to taken place)
   arc_made taken place q =
       ap (λ (t : Bool). cond (option_map_or (word_goes_quietly t) (slice_get parts.words spot.place) false) (option_map (arc_to t) (place_of parts.stretches q.target)) None) (taken_again taken)
-      ∙ ap (λ (o : Option SchemaWord). cond (option_map_or (word_goes_quietly taken) o false) (option_map (arc_to taken) (place_of parts.stretches q.target)) None) at_place
+      ∙ ap (λ (o : Option SchemaWord). cond (option_map_or (word_goes_quietly taken) o false) (option_map (arc_to taken) (place_of parts.stretches q.target)) None) (word_there parts valid spot there met is)
       ∙ ap (λ (o : Option Class). cond (option_map_or (goes_quietly (is_kept met.word) taken) o false) (option_map (arc_to taken) (place_of parts.stretches q.target)) None) is.named
       ∙ ap (λ b. cond b (option_map (arc_to taken) (place_of parts.stretches q.target)) None) q.quiet
       ∙ ap (option_map (arc_to taken)) q.to

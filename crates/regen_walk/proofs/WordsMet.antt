@@ -2,7 +2,7 @@
 use Rattle.std.proofs.Common.{◌≡◌, ℕ, ◌<◌, ◌%◌, Bool, true, false, cond, eqb, List, length, get_or, Option, Some, None, refl, sym, ap, subst, ◌∙◌, arith}
 use Rattle.std.specs.Prelude.{◌&&◌, ◌||◌, ◌==◌, not, nat_le, is_some, slice_get, IsSome}
 use Rattle.std.specs.Option.{option_and_then, option_map_or}
-use Rattle.std.proofs.lemmas.Bool.{and_parts, eqb-true, or_parts}
+use Rattle.std.proofs.lemmas.Bool.{and_parts, eqb-true, or_parts, not-false}
 use Rattle.std.proofs.lemmas.List.Sums.{sum-map}
 use Rattle.std.proofs.lemmas.Option.{slice_get-get_or}
 use Rattle.rv_code.specs.declared.class.Class.{Class}
@@ -103,14 +103,10 @@ raw_call class kept raw is_call fits =
     let here : raw_fits Call kept raw ≡ true = ap (λ (c : Class). raw_fits c kept raw) (sym is_call) ∙ fits in
     call_number (meaning_of raw) (and_parts (eqb (class_number (class_of (meaning_of raw))) 6) (not kept || is_some (written_by (meaning_of raw))) here).0
 
-from_not : (b : Bool) → not b ≡ false → b ≡ true
-from_not true is = refl
-from_not false is = absurd (cc is)
-
 -- an edge that fits, and isn't marked, leads to a code word
 inner_edge : (stretches : List Extent) (way : Option ℕ) (marked : Bool) (to : ℕ) → edge_misfits stretches way marked ≡ false → way ≡ Some to → marked ≡ false → is_code stretches to ≡ true
 inner_edge stretches way marked to fits there free =
-    from_not (is_code stretches to)
+    not-false (is_code stretches to)
     (ap (λ (m : Bool). edge_misfits stretches (Some to) m) (sym free) ∙ ap (λ (w : Option ℕ). edge_misfits stretches w marked) (sym there) ∙ fits)
 
 -- one that is marked is there
@@ -131,7 +127,7 @@ fits_from stretches address word class is =
     let mask = or_parts _ (word.mask % 2 == 1) first.0 in
     let raw = or_parts (nat_le 256 word.flags) (not (raw_fits class (is_set KEPT word.flags) word.raw)) mask.0 in
     record {
-      raw = from_not (raw_fits class (is_set KEPT word.flags) word.raw) raw.1;
+      raw = not-false (raw_fits class (is_set KEPT word.flags) word.raw) raw.1;
       edges = λ taken. elim taken as (λ t. edge_misfits stretches (way_of t class word.raw address) (is_set (witness_mark t) word.flags) ≡ false) [ true ↦ last.1 | false ↦ first.1 ];
     }
 

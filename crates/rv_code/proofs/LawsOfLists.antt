@@ -1,11 +1,9 @@
 -- Lists in order: what `ordered` and `rising` have, and which lists they are.
-use Rattle.std.proofs.Common.{◌≡◌, ℕ, zero, suc, ◌+◌, ◌<◌, ◌≤◌, true, false, cond, eqb, leb, List, [], ◌∷◌, length, get_or, map, sym, refl, ap, ◌∙◌, subst, inl, inr, arith, rules, add-one, zero-add}
-use Rattle.std.specs.Prelude.{◌⊎◌, ◌≢◌, ⊤}
+use Rattle.std.proofs.Common.{◌≡◌, ℕ, zero, suc, ◌+◌, ◌<◌, ◌≤◌, true, false, cond, eqb, leb, List, [], ◌∷◌, length, get_or, map, Some, sym, refl, ap, ◌∙◌, subst, inl, inr, arith, rules, add-one, zero-add}
+use Rattle.std.specs.Prelude.{◌⊎◌, ◌≢◌, ⊤, slice_get}
 use Rattle.std.specs.List.{AllPairs, Contains, dedup, filter}
 use Rattle.std.specs.List.Sorted.{IsPermutation, IsSorted, IsSortedByKeyClosure, IsNonDecreasing, IsNonDecreasingBy, IsStrictlyIncreasing}
 use Rattle.std.specs.Fn.{Called}
-use denote.Ref.{Bor}
-use denote.Param.Members.{Mut}
 use Rattle.std.specs.List.Retain.{IsFiltered, DiffersFromLast}
 use Rattle.std.specs.Ordering.{nat_cmp}
 use Rattle.std.proofs.lemmas.Bool.{cases_Bool, cases_eq, cases_lt, leb-true, leb-false, eq-eqb, ne_eqb}
@@ -14,6 +12,8 @@ use Rattle.std.proofs.lemmas.List.Filters.{dedup_is}
 use Rattle.std.proofs.lemmas.List.Kept.{Contains-dedup_nat, Contains-from_dedup}
 use Rattle.std.proofs.lemmas.List.Recursion.{is_sum_by}
 use Rattle.std.proofs.lemmas.Map.Keys.{IsStrictlyIncreasing-dedup}
+use denote.Ref.{Bor}
+use denote.Param.Members.{Mut}
 use Rattle.rv_code.specs.Ordered.{put_in, ordered, rising}
 
 -- `put_in` at a list that isn't empty, by the answer of its test
@@ -96,6 +96,12 @@ Rises-from_IsStrictlyIncreasing low (x ∷ xs) above h = (
   Rises-from_IsStrictlyIncreasing (x + 1) xs (λ some. omega (arith, h 0 (omega arith)))
       (λ k inside. rw add-one (rw add-one at (h (suc k) (omega arith)))),
 )
+
+-- what stands at a place of a list that rises is not below its start
+pub Rises-slice_get : (low place number : ℕ) (numbers : List ℕ) → Rises low numbers → slice_get numbers place ≡ Some number → low ≤ number
+Rises-slice_get low place number [] rises is = absurd (cc is)
+Rises-slice_get low zero number (first ∷ numbers) rises is = let same : first ≡ number = cc is in omega (arith, rises.0)
+Rises-slice_get low (suc place) number (first ∷ numbers) rises is = omega (arith, rises.0, Rises-slice_get (first + 1) place number numbers rises.1 is)
 
 -- what is in a list with a first element
 Contains-first : {X : Type 0} (x y : X) (ys : List X) → x ≡ y → Contains (y ∷ ys) x

@@ -8,12 +8,12 @@ use Rattle.std.proofs.lemmas.Bool.Decides.{nat_tests}
 use Rattle.std.proofs.lemmas.Option.{slice_get_within, slice_get-get_or, slice_get_past, get_or_from_slice_get}
 use Rattle.std.proofs.lemmas.List.Kept.{AllPairs-from_increasing}
 use Rattle.std.proofs.lemmas.List.Sums.{sum_by-cons}
-use Rattle.rv_code.proofs.LawsOfLists.{Rises, Rises-from_IsStrictlyIncreasing}
 use Rattle.rv_code.specs.declared.extent.Extent.{Extent}
 use Rattle.rv_code.specs.declared.image.Range.{Range}
 use Rattle.rv_code.specs.Code.{extent_of, extents_of, is_word_of, is_code, code_word}
 use Rattle.rv_code.specs.Image.{word_count}
 use Rattle.rv_code.specs.Places.{words_of, code_addresses, place_of, address_of, IsCodeExtent, ExtentsRise}
+use Rattle.rv_code.proofs.LawsOfLists.{Rises, Rises-from_IsStrictlyIncreasing}
 use Rattle.rv_code.proofs.LawsOfPlaces.{words_from, length-words_of, Contains-is_word_of, code_addresses-IsStrictlyIncreasing, length-code_addresses_of_ranges}
 
 -- the place of a number in a list, by recursion
@@ -54,7 +54,7 @@ place_in-first : (word : ℕ) (words : List ℕ) (address : ℕ) → word ≡ ad
 place_in-first word words address same =
     ap (λ b. cond b (Some 0) (option_map (λ place. 1 + place) (place_in words address))) (eq-eqb word address same)
 
-option_map-sum : (one other all : ℕ) (found : Option ℕ) → one + other ≡ all → option_map (λ place. one + place) (option_map (λ place. other + place) found) ≡ option_map (λ place. all + place) found
+pub option_map-sum : (one other all : ℕ) (found : Option ℕ) → one + other ≡ all → option_map (λ place. one + place) (option_map (λ place. other + place) found) ≡ option_map (λ place. all + place) found
 option_map-sum one other all None is = refl
 option_map-sum one other all (Some place) is = ap Some (omega arith)
 

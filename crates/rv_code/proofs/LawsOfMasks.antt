@@ -1,9 +1,11 @@
 -- The bits of masks that are made of registers.
-use Rattle.std.proofs.Common.{◌≡◌, ℕ, zero, suc, ◌^◌, cond, eqb, List, [], ◌∷◌, sym, subst, ◌∙◌, inl, inr, arith}
+use Rattle.std.proofs.Common.{◌≡◌, ℕ, zero, suc, ◌*◌, ◌%◌, ◌^◌, ◌<◌, cond, eqb, List, [], ◌∷◌, sym, ap, subst, ◌∙◌, inl, inr, arith, one-mul, mod-eq_of_lt}
 use Rattle.std.specs.Int.{bit_at}
+use Rattle.std.specs.Int.Bits.{or_zero_r}
 use Rattle.std.specs.List.{list_any}
 use Rattle.std.proofs.lemmas.Bool.{cases_eq, eq-eqb, ne_eqb}
 use Rattle.std.proofs.lemmas.Nat.Bits.{bit_at-lt, bit_at-zero, bit_at_or, bit_at-pow_same, bit_at-pow_other}
+use Rattle.std.proofs.Math.Pow.{pow-lt}
 use Rattle.rv_code.specs.Parts.{mask_of}
 
 -- the bit of a register but x0 says whether it is one of them
@@ -29,3 +31,11 @@ lowest_of-mask_of (zero ∷ registers) = lowest_of-mask_of registers
 lowest_of-mask_of (suc register ∷ registers) =
     bit_at_or (2 ^ suc register) (mask_of registers) 0
     ∙ omega (arith, bit_at-pow_other (suc register) 0 (λ same. omega arith), lowest_of-mask_of registers)
+
+-- the bit of one register, as a shift computes it
+pub shifted-mask_of : (register : ℕ) → 0 < register → register < 32 → 1 * 2 ^ register % 2 ^ 32 ≡ mask_of (register ∷ [])
+shifted-mask_of zero some below = absurd (omega arith)
+shifted-mask_of (suc register) some below =
+    let one : 1 * 2 ^ suc register ≡ 2 ^ suc register = one-mul (2 ^ suc register) in
+    let small : 2 ^ suc register < 2 ^ 32 = pow-lt below in
+    ap (λ n. n % 2 ^ 32) one ∙ (mod-eq_of_lt small ∙ sym (or_zero_r (2 ^ suc register)))

@@ -8,7 +8,6 @@ use Rattle.std.proofs.lemmas.Bool.Decides.{nat_tests}
 use Rattle.std.proofs.lemmas.List.Sums.{sum_by-cons}
 use Rattle.std.proofs.lemmas.List.FromFn.{length-map-range_with_len}
 use Rattle.std.proofs.lemmas.List.Elements.{Contains-append_left, Contains-append_right, Contains-append_cases}
-use Rattle.rv_code.proofs.LawsOfLists.{Rises, IsStrictlyIncreasing-from_Rises, Rises-from_IsStrictlyIncreasing}
 use Rattle.rv_code.specs.declared.extent.Extent.{Extent}
 use Rattle.rv_code.specs.declared.image.Image.{Image}
 use Rattle.rv_code.specs.declared.image.Range.{Range}
@@ -16,6 +15,7 @@ use Rattle.rv_code.specs.Code.{extent_end, extent_of, extents_of, is_word_of, is
 use Rattle.rv_code.specs.declared.image.Region.{Region}
 use Rattle.rv_code.specs.Image.{IsImage, IsRegion, IsRange, RangesRise, region_end, word_count}
 use Rattle.rv_code.specs.Places.{words_of, code_addresses, EndsInSpace, IsCodeExtent, ExtentsRise, AreCodeExtents, put_before, extents_at}
+use Rattle.rv_code.proofs.LawsOfLists.{Rises, IsStrictlyIncreasing-from_Rises, Rises-from_IsStrictlyIncreasing}
 
 -- so many addresses from a number on, counted from a start
 abbrev pub words_from : (start first count : ℕ) → List ℕ
@@ -52,6 +52,15 @@ Contains-is_word_of extent address aligned within =
     let high : ltb address (extent_end extent) ≡ true = lt-ltb address (extent_end extent) (omega arith) in
     let whole : eqb (address % 4) 0 ≡ true = eq-eqb (address % 4) 0 (omega arith) in
     rw (low, high, whole)
+
+-- the address of a code word is a multiple of 4
+pub is_code-aligned : (extents : List Extent) (address : ℕ) → is_code extents address ≡ true → address % 4 ≡ 0
+is_code-aligned [] address is = absurd (cc is)
+is_code-aligned (extent ∷ extents) address is = elim (or_cases (is_word_of extent address) (is_code extents address) is) [
+  | inl here ↦
+      let lies : (extent.start ≤ address) × (address < extent.start + 4 * extent.count) × (address % 4 ≡ 0) = grind (arith, nat_tests) in lies.2
+  | inr there ↦ is_code-aligned extents address there
+]
 
 abbrev pub StartsAligned : Extent → Type 0
 StartsAligned extent = extent.start % 4 ≡ 0

@@ -1,5 +1,8 @@
+pub mod LawsOfTests
+pub mod LawsOfElements
 pub mod LawsOfLists
 pub mod LawsOfRows
+pub mod LawsOfBytes
 mod Levels
 mod Apart
 mod Registers

@@ -11,7 +11,7 @@ use Rattle.rv_code.specs.declared.image.Range.{Range}
 use Rattle.rv_code.specs.declared.image.Region.{Region}
 use Rattle.rv_code.specs.Addresses.{stack_start, stack_length}
 use Rattle.rv_code.specs.Code.{is_word_of, is_code, extent_end, extent_of, extents_of}
-use Rattle.rv_code.specs.Image.{region_end, IsRegion, IsRange, IsImage}
+use Rattle.rv_code.specs.Image.{IsRegion, IsRange, IsImage}
 use Rattle.rv_code.specs.Numbers.{IsByte, IsWord}
 use Rattle.rv_code.specs.declared.limits.TheConstants.{FIRST_STACK_POINTER}
 use Rattle.rv_code.proofs.LawsOfPlaces.{at_place, region_fits}

@@ -6,6 +6,7 @@ use Rattle.std.proofs.lemmas.Bool.Decides.{nat_tests}
 use Rattle.std.proofs.lemmas.List.{append-nil, take_all, take_at, drop_all, drop_at, take-append-drop}
 use Rattle.ae_ports.specs.declared.failed.Failed.{Failed}
 use Rattle.ae_ports.specs.Content.{Consumes, Appends, AppendsFront, IsAtEnd}
+use Rattle.ae_ports.proofs.LawsOfContent.{Consumes-none}
 use Rattle.rv_code.specs.declared.ending.Ending.{Ending}
 use Rattle.rv_code.specs.declared.ending.Ending.TheVariants.{Exit}
 use Rattle.rv_code.specs.declared.instr.Instr.TheVariants.{Ecall}
@@ -13,6 +14,7 @@ use Rattle.rv_code.specs.Numbers.{wrap}
 use Rattle.rv_memory.specs.Stretches.{Mapping, memory_of}
 use Rattle.rv_memory.specs.Outline.{outline}
 use Rattle.rv_memory.specs.Memory.{Cell, span, bytes_at, first_hole, first_shut, written}
+use Rattle.rv_memory.proofs.LawsOfCells.{length-bytes_at, length-span}
 use Rattle.rv_machine.specs.declared.acted.Acted.{Acted}
 use Rattle.rv_machine.specs.declared.outcome.MachineFault.{MachineFault}
 use Rattle.rv_machine.specs.State.{State, register_of, with_register}
@@ -23,8 +25,7 @@ use Rattle.rv_machine.specs.Held.{Held, Outside, state_of}
 use Rattle.rv_machine.specs.Ports.{Told, Passed, HasPassed}
 use Rattle.rv_machine.specs.Laws.{IsFrontOf}
 use Rattle.rv_machine.specs.Inner.Advance.{made_of, buffer_in, read_in, write_in, WentOn, Stops, Breaks, Acts, Follows, GivenBefore, with_answer, may_give_events, Gave, Receives}
-use Rattle.rv_memory.proofs.LawsOfCells.{length-bytes_at, length-span}
-use Rattle.rv_machine.proofs.Passing.{nothing, consumes_nothing, appends_nothing, nothing_passed, nothing_follows}
+use Rattle.rv_machine.proofs.Passing.{nothing, appends_nothing, nothing_passed, nothing_follows}
 
 -- an answer without the ports
 pub answered : (held now : Held) (told : Told) (effect : Effect) (code : ℕ) → effect ≡ Sets 10 code None → now ≡ with_answer held code
@@ -69,11 +70,11 @@ given_to Events bytes outside = record outside { events = outside.events ++ byte
 
 ports_of : (channel : Channel) (told : Told) (now : Option (List ℕ)) (bytes : List ℕ) → Appends (told_of channel told) now bytes → HasPassed told (told_with channel told now) (passed_to channel bytes)
 ports_of Out told now bytes gives =
-    record { input = consumes_nothing told.input; out = gives; err = appends_nothing told.err; events = appends_nothing told.events }
+    record { input = Consumes-none told.input; out = gives; err = appends_nothing told.err; events = appends_nothing told.events }
 ports_of ErrChannel told now bytes gives =
-    record { input = consumes_nothing told.input; out = appends_nothing told.out; err = gives; events = appends_nothing told.events }
+    record { input = Consumes-none told.input; out = appends_nothing told.out; err = gives; events = appends_nothing told.events }
 ports_of Events told now bytes gives =
-    record { input = consumes_nothing told.input; out = appends_nothing told.out; err = appends_nothing told.err; events = gives }
+    record { input = Consumes-none told.input; out = appends_nothing told.out; err = appends_nothing told.err; events = gives }
 
 follows_to : (channel : Channel) (bytes : List ℕ) (outside : Outside) → Follows outside (given_to channel bytes outside) (passed_to channel bytes)
 follows_to Out bytes outside = record { out = refl; err = sym (append-nil outside.err); events = sym (append-nil outside.events) }

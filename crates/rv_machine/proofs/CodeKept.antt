@@ -8,6 +8,7 @@ use Rattle.rv_code.specs.Image.{IsImage}
 use Rattle.rv_code.specs.Numbers.{IsWord, wrap, number_of}
 use Rattle.rv_code.specs.Table.{meaning_of}
 use Rattle.rv_code.proofs.LawsOfLookUps.{is_some-code_word}
+use Rattle.rv_code.proofs.LawsOfPlaces.{is_code-aligned}
 use Rattle.rv_memory.specs.Memory.{Cell, byte_of_cell, bytes_at, cell_at, span, with_byte, written}
 use Rattle.rv_memory.proofs.LawsOfCells.{cell_at-with_byte, other_cells_stay}
 use Rattle.rv_machine.specs.State.{State}
@@ -17,7 +18,6 @@ use Rattle.rv_machine.specs.Clean.{IsInCode, StepsCleanly, stored_by}
 use Rattle.rv_machine.specs.Laws.{HoldsCode, CleanStepsKeepCode, FetchesItsCode}
 use Rattle.rv_machine.specs.Step.{program_of, AfterStep, carried_out, fetched, settled, step_of}
 use Rattle.rv_machine.proofs.Begun.{code_is_word}
-use Rattle.rv_machine.proofs.FirstCode.{code_aligned}
 use Rattle.rv_machine.proofs.Mapped.{after_effect}
 
 weaker : {P Q : ℕ → Type 0} (xs : List ℕ) → ((x : ℕ) → P x → Q x) → AllByRecursion P xs → AllByRecursion Q xs
@@ -58,7 +58,7 @@ module _ (image : Image) (is : IsImage image) where
   holds_still : (memory next : List Cell) → HoldsCode image.code memory → Keeps memory next → HoldsCode image.code next
   holds_still memory next holds keeps address word there =
       let code = in_code image.code address word there in
-      word_stays memory next address (code_aligned (extents_of image.code) address code) (code_is_word (is_some image.note) image.regions is.regions image.code is.ranges address code)
+      word_stays memory next address (is_code-aligned (extents_of image.code) address code) (code_is_word (is_some image.note) image.regions is.regions image.code is.ranges address code)
       (λ other same. keeps other (ap (is_code (extents_of image.code)) same ∙ code))
       ∙ holds address word there
 

@@ -2,10 +2,9 @@
 use Rattle.std.proofs.Common.{◌≡◌, ◌⊎◌, inl, inr, ℕ, zero, suc, ◌+◌, ◌-◌, ◌*◌, ◌/◌, ◌%◌, ◌<◌, ◌≤◌, Bool, true, false, cond, List, [], ◌∷◌, ◌++◌, map, replicate, length, drop, get_or, Some, is_some, refl, sym, ap, subst, ◌∙◌, arith, length-append}
 use Rattle.std.specs.Prelude.{not, filter, flat_map, nat_lt, slice_get}
 use Rattle.std.specs.List.{AllByRecursion}
-use Rattle.std.proofs.lemmas.Bool.{cases_Bool, or_cases, eq-eqb, ne_eqb}
+use Rattle.std.proofs.lemmas.Bool.{cases_Bool, eq-eqb, ne_eqb}
 use Rattle.std.proofs.lemmas.Bool.Decides.{nat_tests}
 use Rattle.std.proofs.lemmas.List.{get_or-take, get_or-drop, get_or_append_left, get_or-append-add}
-use Rattle.rv_code.specs.declared.extent.Extent.{Extent}
 use Rattle.rv_code.specs.declared.image.Image.{Image}
 use Rattle.rv_code.specs.declared.image.Range.{Range}
 use Rattle.rv_code.specs.declared.image.Region.{Region}
@@ -14,20 +13,12 @@ use Rattle.rv_code.specs.Code.{code_word, extent_of, extents_of, is_code, is_wor
 use Rattle.rv_code.specs.Image.{HoldsWords, IsImage, IsRange}
 use Rattle.rv_code.specs.Numbers.{IsWord, wrap, bytes_of, number_of}
 use Rattle.rv_code.proofs.LawsOfLookUps.{is_some-code_word}
+use Rattle.rv_code.proofs.LawsOfBytes.{number_of-bytes_of}
 use Rattle.rv_memory.specs.Memory.{Cell, Rise, byte_at, byte_of_cell, bytes_at, cell_at, span}
 use Rattle.rv_memory.specs.Stretches.{MappedStretch, stack, stretch_of, stretches_of, cells_from, cells_of, cells_in, memory_of, mapping_of}
 use Rattle.rv_memory.proofs.LawsOfStart.{memory_begins}
 use Rattle.rv_machine.specs.Laws.{BeginsWithCode}
 use Rattle.rv_machine.proofs.Begun.{code_is_word}
-
--- code words lie at multiples of 4
-pub code_aligned : (extents : List Extent) (address : ℕ) → is_code extents address ≡ true → address % 4 ≡ 0
-code_aligned [] address is = absurd (cc is)
-code_aligned (extent ∷ extents) address is = elim (or_cases (is_word_of extent address) (is_code extents address) is) [
-  | inl here ↦
-      let lies : (extent.start ≤ address) × (address < extent.start + 4 * extent.count) × (address % 4 ≡ 0) = grind (arith, nat_tests) in lies.2
-  | inr there ↦ code_aligned extents address there
-]
 
 -- one of a list
 abbrev IsOne : {X : Type 0} → List X → X → Type 0
@@ -125,9 +116,6 @@ word_of_list [] place word all is = absurd (cc is)
 word_of_list (first ∷ words) zero word all is = let same : first ≡ word = cc is in (omega arith, subst IsWord same all.0)
 word_of_list (first ∷ words) (suc place) word all is = let (within, small) = word_of_list words place word all.1 is in (omega (arith, within), small)
 
-number_back : (word : ℕ) → IsWord word → number_of (bytes_of 4 word) ≡ word
-number_back word small = omega (arith, small)
-
 -- the word of a range that a region holds
 module _ (memory : List Cell) (region : Region) (range : Range) (holds : HoldsWords region range) (aligned : range.start % 4 ≡ 0) (all : AllByRecursion IsWord range.words)
     (has : (place : ℕ) → place < length region.bytes → byte_at memory (region.start + place) ≡ get_or region.bytes place 0) where
@@ -164,7 +152,7 @@ module _ (memory : List Cell) (region : Region) (range : Range) (holds : HoldsWo
         let c = byte_there 2 third (omega arith) at_third in
         let d = byte_there 3 fourth (omega arith) at_fourth in
         let bytes : bytes_at memory (span address 4) ≡ bytes_of 4 word = λ i. a i ∷ b i ∷ c i ∷ d i ∷ [] in
-        ap number_of bytes ∙ number_back word (word_of_list range.words place word all there).1
+        ap number_of bytes ∙ number_of-bytes_of word (word_of_list range.words place word all there).1
 
 module _ (image : Image) (is : IsImage image) where
   abbrev first_memory : List Cell

@@ -1,3 +1,4 @@
+pub mod LawsOfStates
 mod Runs
 mod Mapped
 mod Given

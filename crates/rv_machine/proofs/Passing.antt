@@ -1,9 +1,9 @@
 -- Bytes that pass, one piece after the other.
 use Rattle.std.proofs.Common.{◌≡◌, ℕ, ◌+◌, List, [], ◌++◌, length, take, Option, None, Some, refl, sym, ap, ◌∙◌, arith, append_assoc, length-append}
 use Rattle.std.proofs.lemmas.List.{append-nil, take_at}
-use Rattle.std.specs.Io.KnownBytes.{prepend_known, append_known}
-use Rattle.ae_ports.specs.Content.{Consumes, Appends, AppendsFront}
-use Rattle.ae_ports.proofs.LawsOfContent.{Appends-behind}
+use Rattle.std.specs.Io.KnownBytes.{append_known}
+use Rattle.ae_ports.specs.Content.{Appends, AppendsFront}
+use Rattle.ae_ports.proofs.LawsOfContent.{Appends-behind, Consumes-none, Consumes-behind}
 use Rattle.rv_machine.specs.Laws.{IsFrontOf}
 use Rattle.rv_machine.specs.State.{State}
 use Rattle.rv_machine.specs.Held.{Outside}
@@ -13,10 +13,6 @@ use Rattle.rv_machine.specs.Inner.Advance.{Follows, GivenBefore}
 abbrev pub nothing : Passed
 nothing = record { taken = []; out = []; err = []; events = [] }
 
-pub consumes_nothing : (known : Option (List ℕ)) → Consumes known known []
-consumes_nothing None = refl
-consumes_nothing (Some bytes) = refl
-
 pub appends_nothing : (known : Option (List ℕ)) → Appends known known []
 appends_nothing None = refl
 appends_nothing (Some bytes) = ap Some (sym (append-nil bytes))
@@ -24,7 +20,7 @@ appends_nothing (Some bytes) = ap Some (sym (append-nil bytes))
 pub nothing_passed : (told : Told) → HasPassed told told nothing
 nothing_passed told =
     record {
-      input = consumes_nothing told.input;
+      input = Consumes-none told.input;
       out = appends_nothing told.out;
       err = appends_nothing told.err;
       events = appends_nothing told.events;
@@ -43,17 +39,10 @@ both first second =
       events = first.events ++ second.events;
     }
 
-pub prepend-both : (first second : List ℕ) (known : Option (List ℕ)) → prepend_known first (prepend_known second known) ≡ prepend_known (first ++ second) known
-prepend-both first second None = refl
-prepend-both first second (Some bytes) = ap Some (sym (append_assoc first second bytes))
-
-consumes_both : (one two three : Option (List ℕ)) (first second : List ℕ) → Consumes one two first → Consumes two three second → Consumes one three (first ++ second)
-consumes_both one two three first second f g = f ∙ ap (λ known. prepend_known first known) g ∙ prepend-both first second three
-
 pub passed_both : (one two three : Told) (first second : Passed) → HasPassed one two first → HasPassed two three second → HasPassed one three (both first second)
 passed_both one two three first second f g =
     record {
-      input = consumes_both one.input two.input three.input first.taken second.taken f.input g.input;
+      input = Consumes-behind one.input two.input three.input first.taken second.taken f.input g.input;
       out = Appends-behind one.out two.out three.out first.out second.out f.out g.out;
       err = Appends-behind one.err two.err three.err first.err second.err f.err g.err;
       events = Appends-behind one.events two.events three.events first.events second.events f.events g.events;

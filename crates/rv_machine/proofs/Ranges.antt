@@ -11,14 +11,15 @@ use Rattle.rv_code.specs.Addresses.{tracer_start}
 use Rattle.rv_code.specs.Numbers.{IsByte, IsWord, wrap, unsigned, bytes_of}
 use Rattle.rv_code.specs.Results.{is_taken}
 use Rattle.rv_code.specs.Table.{meaning_of}
-use Rattle.rv_memory.specs.Memory.{Cell, cell_at, byte_of_cell, byte_at, span, bytes_at, first_hole, first_shut, with_byte, written}
+use Rattle.rv_memory.specs.Memory.{Cell, span, bytes_at, first_hole, first_shut, with_byte, written}
+use Rattle.rv_memory.proofs.LawsOfCells.{rise-written}
 use Rattle.rv_machine.specs.State.{State, register_of, with_register}
 use Rattle.rv_machine.specs.Effect.{Effect, Passes, Sets, Stores, Jumps, Gives, Takes, Ends, Channel, Out, Err, Events, load_at, store_at, store_size, jump_to, indirect_target, effect_with}
 use Rattle.rv_machine.specs.Calls.{call_read, call_write, call_exit, bad_descriptor, bad_address, no_call, read_call, write_out, write_events, write_call, effect_of_call, effect_of}
 use Rattle.rv_machine.specs.Step.{settled, AfterStep}
 use Rattle.rv_machine.specs.Laws.{IsCell, IsState, KeepsRanges}
 use Rattle.rv_machine.proofs.Mapped.{after_step}
-use Rattle.rv_memory.proofs.LawsOfCells.{rise-written}
+use Rattle.rv_machine.proofs.LawsOfStates.{byte_in_memory}
 
 -- the numbers that an effect puts into a state are in their ranges
 abbrev IsEffect : Effect → Type 0
@@ -45,14 +46,6 @@ zeros_are_bytes (suc count) = (omega arith, zeros_are_bytes count)
 
 abbrev pub AreCells : List Cell → Type 0
 AreCells memory = AllByRecursion IsCell memory
-
-found_byte : (t : Bool) (cell : Cell) (rest : Option Cell) → IsByte cell.byte → IsByte (byte_of_cell rest) → IsByte (byte_of_cell (cond t (Some cell) rest))
-found_byte true cell rest f g = f
-found_byte false cell rest f g = g
-
-byte_in_memory : (memory : List Cell) (address : ℕ) → AreCells memory → IsByte (byte_at memory address)
-byte_in_memory [] address h = omega arith
-byte_in_memory (cell ∷ memory) address h = found_byte (eqb cell.address address) cell (cell_at memory address) h.0.byte (byte_in_memory memory address h.1)
 
 bytes_in_memory : (memory : List Cell) (addresses : List ℕ) → AreCells memory → AllByRecursion IsByte (bytes_at memory addresses)
 bytes_in_memory memory [] h = tt

@@ -3,11 +3,11 @@ use Rattle.std.proofs.Common.{◌≡◌, ℕ, ◌+◌, ◌-◌, ◌^◌, ◌<◌
 use Rattle.std.proofs.lemmas.List.{length-take-le, take-append-le}
 use Rattle.std.specs.Io.KnownBytes.{prepend_known}
 use Rattle.ae_ports.specs.Content.{Consumes}
+use Rattle.ae_ports.proofs.LawsOfContent.{prepend_known-append, Consumes-none}
 use Rattle.rv_code.specs.Numbers.{wrap}
 use Rattle.rv_memory.specs.Memory.{Cell, is_writable, span, first_shut, written}
-use Rattle.rv_machine.specs.Inner.Advance.{Receives}
-use Rattle.rv_machine.proofs.Passing.{prepend-both, consumes_nothing}
 use Rattle.rv_memory.proofs.LawsOfCells.{none_front, none_behind, shut_written, written_none, written_few, written_both}
+use Rattle.rv_machine.specs.Inner.Advance.{Receives}
 
 -- how far bytes of the input were put into the buffer
 pub record IsReceived (told told_now : Option (List ℕ)) (before now : List Cell) (address count got : ℕ) : Type 0 where
@@ -19,7 +19,7 @@ pub record IsReceived (told told_now : Option (List ℕ)) (before now : List Cel
 
 pub none_received : (told : Option (List ℕ)) (before : List Cell) (address count : ℕ) → IsReceived told told before before address count 0
 none_received told before address count =
-    record { bytes = []; number = refl; within = omega arith; taken = consumes_nothing told; put = written_none before (span address count) }
+    record { bytes = []; number = refl; within = omega arith; taken = Consumes-none told; put = written_none before (span address count) }
 
 module _ (told mid : Option (List ℕ)) (before between : List Cell) (address count got : ℕ) (fits : address < 2 ^ 32)
     (far : IsReceived told mid before between address count got) where
@@ -41,7 +41,7 @@ module _ (told mid : Option (List ℕ)) (before between : List Cell) (address co
         bytes = had ++ bytes;
         number = whole;
         within = le;
-        taken = far.taken ∙ (ap (λ (known : Option (List ℕ)). prepend_known had known) taken ∙ prepend-both had bytes now);
+        taken = far.taken ∙ (ap (λ (known : Option (List ℕ)). prepend_known had known) taken ∙ prepend_known-append had bytes now);
         put = put
             ∙ (ap (λ (cells : List Cell). written cells (span (wrap (address + got)) (length bytes)) bytes) (far.put ∙ written_few before address count had few)
             ∙ (ap (λ n. written (written before (span address (length had)) had) (span (wrap (address + n)) (length bytes)) bytes) (sym far.number)

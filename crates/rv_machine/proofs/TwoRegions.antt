@@ -1,5 +1,5 @@
 -- An image of two regions: one from 0x10000 on that ends with code, and one that can be written.
-use Rattle.std.proofs.Common.{◌≡◌, ◌⊎◌, ℕ, suc, Bool, get_or, ◌+◌, ◌*◌, ◌<◌, ◌≤◌, true, false, List, [], ◌∷◌, ◌++◌, length, take, drop, refl, sym, subst, arith, length-append, inl, inr}
+use Rattle.std.proofs.Common.{◌≡◌, ◌⊎◌, ℕ, Bool, ◌+◌, ◌*◌, ◌<◌, ◌≤◌, true, false, List, [], ◌∷◌, ◌++◌, length, take, drop, refl, sym, subst, arith, length-append, inl, inr}
 use Rattle.std.proofs.lemmas.Bool.{lt-ltb}
 use Rattle.std.proofs.Math.Seq.{drop-append_seam, take-length}
 use Rattle.std.specs.Prelude.{Option, None, Some, IsTrue, nat_lt}
@@ -13,20 +13,8 @@ use Rattle.rv_code.specs.declared.image.Region.{Region}
 use Rattle.rv_code.specs.Code.{is_code, extents_of}
 use Rattle.rv_code.specs.Image.{IsRegion, HoldsWords, IsRange, IsNote, IsImage}
 use Rattle.rv_code.specs.Numbers.{IsByte, IsWord, bytes_of}
-use Rattle.rv_machine.proofs.Ranges.{are_bytes, all_of_both}
-
-words_length : (words : List ℕ) → length (flat_map (bytes_of 4) words) ≡ 4 * length words
-words_length [] = refl
-words_length (word ∷ words) = omega (arith, words_length words)
-
-words_are_bytes : (words : List ℕ) → AllByRecursion IsByte (flat_map (bytes_of 4) words)
-words_are_bytes [] = tt
-words_are_bytes (word ∷ words) = all_of_both IsByte (bytes_of 4 word) (flat_map (bytes_of 4) words) (are_bytes 4 word) (words_are_bytes words)
-
--- of all elements, by place and by recursion
-pub all_by_place : (P : ℕ → Type 0) (xs : List ℕ) → ((k : ℕ) → k < length xs → P (get_or xs k 0)) → AllByRecursion P xs
-all_by_place P [] h = tt
-all_by_place P (x ∷ xs) h = (h 0 (omega arith), all_by_place P xs (λ k below. h (suc k) (omega (arith, below))))
+use Rattle.rv_code.proofs.LawsOfBytes.{length-words, words_are_bytes}
+use Rattle.rv_machine.proofs.Ranges.{all_of_both}
 
 abbrev pub code_region : (bytes : List ℕ) → Region
 code_region bytes = record { start = 0x10000; bytes = bytes; zeros = 0; writable = false }
@@ -56,7 +44,7 @@ IsPlace start its_note = ((start ≡ 0x11000) × (its_note ≡ None)) ⊎ ((star
 holds_words : (front words : List ℕ) → length front ≡ 116 → HoldsWords (code_region (front ++ flat_map (bytes_of 4) words)) (range_with words)
 holds_words front words long =
     let bytes : List ℕ = flat_map (bytes_of 4) words in
-    let length_of : length bytes ≡ 4 * length words = words_length words in
+    let length_of : length bytes ≡ 4 * length words = length-words words in
     let dropped : drop 116 (front ++ bytes) ≡ bytes = subst (λ n. drop n (front ++ bytes) ≡ bytes) long (drop-append_seam front bytes) in
     let taken : take (4 * length words) bytes ≡ bytes = subst (λ n. take n bytes ≡ bytes) length_of (take-length bytes) in
     record {
@@ -81,7 +69,7 @@ pub record AreParts (front words others : List ℕ) : Type 0 where
   pub other_bytes : AllByRecursion IsByte others
 
 bytes_length : (front words others : List ℕ) → AreParts front words others → length (front ++ flat_map (bytes_of 4) words) ≡ 116 + 4 * length words
-bytes_length front words others parts = omega (arith, parts.long, words_length words, length-append front (flat_map (bytes_of 4) words))
+bytes_length front words others parts = omega (arith, parts.long, length-words words, length-append front (flat_map (bytes_of 4) words))
 
 code_region_is : (has_note : Bool) (front words others : List ℕ) → AreParts front words others → IsRegion has_note (code_region (front ++ flat_map (bytes_of 4) words))
 code_region_is has_note front words others parts =

@@ -1,5 +1,5 @@
 -- Stretches that start at an address or before it, and the place of a code word in the last of them.
-use Rattle.std.proofs.Common.{◌≡◌, ℕ, zero, suc, ◌+◌, ◌-◌, ◌*◌, ◌/◌, ◌%◌, ◌<◌, ◌≤◌, true, false, cond, List, [], ◌∷◌, length, take, drop, get_or, Option, Some, None, is_some, refl, ap, ◌∙◌, inl, inr, arith}
+use Rattle.std.proofs.Common.{◌≡◌, ℕ, zero, suc, ◌+◌, ◌-◌, ◌*◌, ◌/◌, ◌%◌, ◌<◌, ◌≤◌, true, false, cond, List, [], ◌∷◌, length, take, drop, get_or, Some, None, refl, ap, ◌∙◌, inl, inr, arith}
 use Rattle.std.specs.List.Sorted.{IsNonDecreasingBy, IsPartitionPoint}
 use Rattle.std.proofs.lemmas.Bool.{cases_Bool, le-ltb, or_from}
 use Rattle.std.proofs.lemmas.Bool.Decides.{nat_tests}
@@ -11,6 +11,7 @@ use Rattle.rv_code.specs.Places.{ExtentsRise, address_of, place_of}
 use Rattle.rv_code.proofs.LawsOfLists.{Climbs, non_decreasing_from_Climbs}
 use Rattle.rv_code.proofs.LawsOfLookUps.{address_of-cons, is_some-place_of, place_of-address_of}
 use Rattle.rv_code.proofs.LawsOfPlaces.{ExtentsRise-rest}
+use Rattle.rv_code.proofs.LawsOfTests.{none_there}
 use Rattle.schema_form.specs.Layout.{words_before, words_total}
 use Rattle.schema_form.specs.Valid.{AreStretches}
 use Rattle.schema_form.proofs.LookedUp.{address_here, aligned_at, total_less, total_more}
@@ -57,10 +58,6 @@ no_code (stretch ∷ next ∷ stretches) (suc (suc count)) address rise few poin
     (λ k d above below. point.0 (suc k) d (omega arith) (omega arith), λ k d above below. point.1 (suc k) d (omega arith) (omega arith))
     (λ number d is. last (suc number) d (omega arith)))
 
-none_from : (found : Option ℕ) → is_some found ≡ false → found ≡ None
-none_from None is = refl
-none_from (Some place) is = absurd (cc is)
-
 address_behind : (stretches : List Extent) (index left : ℕ) → index ≤ length stretches
     → address_of stretches (words_total (take index stretches) + left) ≡ address_of (drop index stretches) left
 address_behind stretches zero left few = let all : 0 + left ≡ left = omega arith in ap (address_of stretches) all
@@ -77,11 +74,11 @@ address_behind (stretch ∷ stretches) (suc index) left few =
 
 -- where as many start at the address or before it as are counted, it is in the last of these
 module _ (items : List Extent) (address : ℕ) (are : AreStretches items) where
-  pub none_there : (count : ℕ) → count ≤ length items
+  pub no_place : (count : ℕ) → count ≤ length items
       → IsPartitionPoint (λ (s : Extent). s.start ≤ address) (λ (s : Extent). address < s.start) items count
       → ((number : ℕ) (d : Extent) → number + 1 ≡ count → is_word_of (get_or items number d) address ≡ false) → place_of items address ≡ None
-  none_there count few point last =
-      none_from (place_of items address) (is_some-place_of items address are.extents.each ∙ no_code items count address are.extents.rise few point last)
+  no_place count few point last =
+      none_there (place_of items address) (is_some-place_of items address are.extents.each ∙ no_code items count address are.extents.rise few point last)
 
   module _ (index : ℕ) (item : Extent) (within : index < length items) (is : item ≡ get_or items index item) (here : is_word_of item address ≡ true) where
     pub place_there : place_of items address ≡ Some (words_total (take index items) + (address - item.start) / 4)

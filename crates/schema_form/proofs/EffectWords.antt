@@ -15,11 +15,12 @@ use Rattle.rv_code.specs.Laws.{IsItsWord}
 use Rattle.rv_code.specs.Numbers.{IsByte, IsWord, wrap, unsigned, number_of}
 use Rattle.rv_code.specs.Results.{is_taken}
 use Rattle.rv_code.specs.Table.{meaning_of}
-use Rattle.rv_memory.specs.Memory.{Cell, byte_at, byte_of_cell, bytes_at, cell_at, first_hole, first_shut, is_mapped, is_writable, span}
+use Rattle.rv_memory.specs.Memory.{Cell, bytes_at, first_hole, first_shut, is_mapped, is_writable, span}
 use Rattle.rv_machine.specs.State.{register_of}
 use Rattle.rv_machine.specs.Effect.{Effect, Passes, Sets, Stores, Jumps, Gives, Takes, Ends, Channel, Out, Err, Events, load_at, load_size, store_at, store_size, jump_to, indirect_target, effect_with}
 use Rattle.rv_machine.specs.Calls.{call_read, call_write, call_exit, bad_descriptor, bad_address, no_call, read_call, write_out, write_events, write_call, effect_of_call, effect_of}
 use Rattle.rv_machine.specs.Laws.{IsCell}
+use Rattle.rv_machine.proofs.LawsOfStates.{byte_in_memory}
 use Rattle.schema_form.proofs.Rows.{all_at}
 
 -- what an effect shows
@@ -124,19 +125,12 @@ with_shows call Ebreak pc registers memory bad h = omega arith
 with_shows call (Bad word) pc registers memory bad h = bad word refl
 
 -- four bytes of memory are a word
-found_byte : (t : Bool) (cell : Cell) (rest : Option Cell) → IsByte cell.byte → IsByte (byte_of_cell rest) → IsByte (byte_of_cell (cond t (Some cell) rest))
-found_byte true cell rest f g = f
-found_byte false cell rest f g = g
-
-byte_small : (memory : List Cell) (address : ℕ) → AllByRecursion IsCell memory → IsByte (byte_at memory address)
-byte_small [] address all = omega arith
-byte_small (cell ∷ memory) address all = found_byte (eqb cell.address address) cell (cell_at memory address) all.0.byte (byte_small memory address all.1)
 
 four_small : (a b c d : ℕ) → IsByte a → IsByte b → IsByte c → IsByte d → IsWord (number_of (a ∷ b ∷ c ∷ d ∷ []))
 four_small a b c d one two three four = omega (arith, one, two, three, four)
 
 pub fetched_word : (memory : List Cell) (pc : ℕ) → AllByRecursion IsCell memory → IsWord (number_of (bytes_at memory (span pc 4)))
-fetched_word memory pc all = four_small _ _ _ _ (byte_small memory _ all) (byte_small memory _ all) (byte_small memory _ all) (byte_small memory _ all)
+fetched_word memory pc all = four_small _ _ _ _ (byte_in_memory memory _ all) (byte_in_memory memory _ all) (byte_in_memory memory _ all) (byte_in_memory memory _ all)
 
 kept_word : (word kept : ℕ) → IsWord word → IsItsWord word → meaning_of word ≡ Bad kept → IsWord kept
 kept_word word kept small its is = subst IsWord (sym (its small).1 ∙ ap word_of is) small

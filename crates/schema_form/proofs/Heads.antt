@@ -2,12 +2,13 @@
 use Rattle.std.proofs.Common.{◌≡◌, inl, inr, ℕ, zero, suc, ◌+◌, ◌-◌, ◌<◌, ◌≤◌, ◌%◌, false, List, length, map, None, subst, arith}
 use Rattle.std.specs.Prelude.{◌==◌, not, nat_le, nat_lt}
 use Rattle.std.specs.List.{find, range_with_len}
-use Rattle.std.proofs.lemmas.Bool.{or_parts, and_cases, not-false, ltb-false, leb-false, eqb-true, eqb-false, lt-ltb, both_ways}
+use Rattle.std.proofs.lemmas.Bool.{or_parts, and_cases, not-false, ltb-false, leb-false, eqb-true, lt-ltb, both_ways}
 use Rattle.rv_code.specs.declared.limits.TheConstants.{WORDS_LIMIT}
 use Rattle.rv_code.specs.Addresses.{stack_start}
 use Rattle.rv_code.specs.Code.{extent_end}
 use Rattle.rv_code.specs.Places.{IsCodeExtent, ExtentsRise}
 use Rattle.rv_code.proofs.LawsOfRows.{none_mapped, each_fails}
+use Rattle.rv_code.proofs.LawsOfTests.{not_zero}
 use Rattle.schema_form.specs.Layout.{stretch_offset, stretch_from, stretches_from, words_total}
 use Rattle.schema_form.specs.Refusal.{meets_before, stretch_misfits, is_too_many, stretch_offends, stretch_fault, stretch_refusal}
 use Rattle.schema_form.specs.Valid.{AreStretches, EndsBelowStack}
@@ -20,9 +21,6 @@ pub record StretchFits (bytes : List ℕ) (number : ℕ) : Type 0 where
   pub some : 0 < (stretch_from bytes number).count
   pub below : extent_end (stretch_from bytes number) ≤ stack_start
   pub behind : 0 < number → extent_end (stretch_from bytes (number - 1)) < (stretch_from bytes number).start
-
-no_zero : (n : ℕ) → (n == 0) ≡ false → 0 < n
-no_zero n is = let differ = eqb-false n 0 is in omega (arith, differ)
 
 stands_behind : (bytes : List ℕ) (number : ℕ) → meets_before bytes number ≡ false → 0 < number → extent_end (stretch_from bytes (number - 1)) < (stretch_from bytes number).start
 stands_behind bytes number is later = elim (and_cases (nat_lt 0 number) (nat_le (stretch_from bytes number).start (extent_end (stretch_from bytes (number - 1)))) is) [
@@ -39,7 +37,7 @@ stretch_fits bytes number is =
     record {
       whole = ltb-false (length bytes) (stretch_offset number + 8) two.0;
       aligned = eqb-true ((stretch_from bytes number).start % 4) 0 (not-false ((stretch_from bytes number).start % 4 == 0) two.1);
-      some = no_zero (stretch_from bytes number).count three.1;
+      some = not_zero (stretch_from bytes number).count three.1;
       below = ltb-false stack_start (extent_end (stretch_from bytes number)) four.1;
       behind = stands_behind bytes number five.1;
     }

@@ -1,6 +1,6 @@
 -- Edges that aren't recorded lead from a code word to a code word.
 use Rattle.std.proofs.Common.{◌≡◌, ℕ, zero, suc, ◌+◌, ◌*◌, ◌^◌, ◌<◌, ◌≤◌, Bool, true, false, cond, List, [], length, Option, Some, None, refl, ◌∙◌, arith}
-use Rattle.std.specs.Prelude.{◌&&◌, not, is_some, slice_get, flat_map, IfSome}
+use Rattle.std.specs.Prelude.{◌&&◌, not, slice_get, flat_map, IfSome}
 use Rattle.std.specs.List.{AllByRecursion, cons_option, range_with_len}
 use Rattle.std.specs.Option.{option_map, option_map_or}
 use Rattle.std.proofs.lemmas.Bool.{or_parts, not-false}
@@ -12,6 +12,8 @@ use Rattle.rv_code.specs.Code.{is_code}
 use Rattle.rv_code.specs.Places.{address_of, place_of, code_addresses}
 use Rattle.rv_code.proofs.LawsOfLookUps.{is_some-place_of, place_of-below}
 use Rattle.rv_code.proofs.LawsOfPlaces.{length-code_addresses}
+use Rattle.rv_code.proofs.LawsOfTests.{some_there}
+use Rattle.rv_code.proofs.LawsOfElements.{all_cons_option}
 use Rattle.flow_graph.specs.declared.edge.Edge.{Edge}
 use Rattle.flow_graph.specs.Edges.{kind_by}
 use Rattle.schema_form.specs.declared.flags.TheConstants.{FALL_WITNESS, TAKEN_WITNESS, KEPT}
@@ -27,10 +29,6 @@ use Rattle.schema_form.proofs.Rows.{all_rows}
 
 pub words_total-code_addresses : (stretches : List Extent) → length (code_addresses stretches) ≡ words_total stretches
 words_total-code_addresses stretches = length-code_addresses stretches ∙ sum-map (λ (stretch : Extent). stretch.count) stretches
-
-some_there : {X : Type 0} (o : Option X) → is_some o ≡ true → (x : X) × (o ≡ Some x)
-some_there None is = absurd (cc is)
-some_there (Some x) is = (x, refl)
 
 -- the two edges of a word fit
 edges_fit : (stretches : List Extent) (address : ℕ) (word : SchemaWord) (class : Class) → misfits_as stretches address word class ≡ false
@@ -65,10 +63,6 @@ module _ (stretches : List Extent) (are : AreStretches stretches) where
 
     edge_fits : (taken : Bool) → misfits_as stretches address word class ≡ false → IfSome (free_edge stretches taken class word place address) (IsInner (words_total stretches))
     edge_fits taken is = by_way taken (is_set (witness_mark taken) word.flags) (way_of taken class word.raw address) (edges_fit stretches address word class is taken)
-
-  all_cons_option : {X : Type 0} (P : X → Type 0) (first : Option X) (rest : List X) → IfSome first P → AllByRecursion P rest → AllByRecursion P (cons_option first rest)
-  all_cons_option P None rest holds all = all
-  all_cons_option P (Some x) rest holds all = (holds, all)
 
   as_class : (place address : ℕ) (word : SchemaWord) (class : Option Class) → place < words_total stretches → address < 2 ^ 31 → option_map_or (misfits_as stretches address word) class true ≡ false
       → AllByRecursion (IsInner (words_total stretches)) (option_map_or (free_edges_as stretches word place address) class [])

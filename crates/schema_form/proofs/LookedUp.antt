@@ -1,5 +1,5 @@
 -- Look-ups that go over stretches one by one.
-use Rattle.std.proofs.Common.{◌≡◌, ℕ, ◌+◌, ◌-◌, ◌*◌, ◌/◌, ◌%◌, ◌<◌, ◌≤◌, true, false, cond, List, ◌∷◌, length, take, drop, get_or, Option, Some, None, refl, sym, ap, ◌∙◌, arith}
+use Rattle.std.proofs.Common.{◌≡◌, ℕ, ◌+◌, ◌-◌, ◌*◌, ◌/◌, ◌%◌, ◌<◌, ◌≤◌, true, false, cond, List, ◌∷◌, length, take, drop, get_or, Some, sym, ap, ◌∙◌}
 use Rattle.std.specs.Option.{option_map}
 use Rattle.std.proofs.lemmas.Bool.{lt-ltb, le-ltb}
 use Rattle.std.proofs.lemmas.List.{drop_more}
@@ -53,7 +53,3 @@ module _ (items : List Extent) (index : ℕ) (item : Extent) (within : index < l
 pub aligned_at : (items : List Extent) (index : ℕ) (item : Extent) → index < length items → item ≡ get_or items index item → AreStretches items → item.start % 4 ≡ 0
 aligned_at items index item within is are =
     ap (λ (stretch : Extent). stretch.start % 4) is ∙ (all_get_or IsCodeExtent items index item within are.extents.each).aligned
-
-pub option_map-both : (one two sum : ℕ) (found : Option ℕ) → one + two ≡ sum → option_map (λ place. one + place) (option_map (λ place. two + place) found) ≡ option_map (λ place. sum + place) found
-option_map-both one two sum None same = refl
-option_map-both one two sum (Some place) same = let all : one + (two + place) ≡ sum + place = omega arith in ap Some all

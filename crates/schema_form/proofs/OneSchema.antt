@@ -1,5 +1,5 @@
 -- Code under given marks has one schema.
-use Rattle.std.proofs.Common.{◌≡◌, inl, inr, ℕ, suc, Bool, true, false, List, [], ◌∷◌, length, get_or, Option, Some, refl, sym, ◌∙◌, arith}
+use Rattle.std.proofs.Common.{◌≡◌, inl, inr, ℕ, suc, Bool, true, false, List, [], ◌∷◌, length, get_or, Some, refl, sym, ◌∙◌, arith}
 use Rattle.std.specs.Prelude.{◌↔◌, IsTrue, slice_get}
 use Rattle.std.specs.Int.{bit_at}
 use Rattle.std.proofs.lemmas.Bool.{cases_eq}
@@ -10,6 +10,7 @@ use Rattle.rv_code.specs.Parts.{class_of}
 use Rattle.rv_code.specs.Places.{code_addresses}
 use Rattle.rv_code.specs.Table.{meaning_of}
 use Rattle.rv_code.proofs.LawsOfPlaces.{length-code_addresses_of_ranges}
+use Rattle.rv_code.proofs.LawsOfTests.{same_found}
 use Rattle.flow_graph.specs.CodeParts.{CodeParts}
 use Rattle.flow_graph.specs.Leaders.{is_leader}
 use Rattle.schema_form.specs.declared.word.SchemaWord.{SchemaWord}
@@ -30,12 +31,9 @@ same_mask one other is is_too = same_from_bits one other (λ k. elim (cases_eq (
   ]
 ])
 
-same_value : (one other : ℕ) (found : Option ℕ) → found ≡ Some one → found ≡ Some other → one ≡ other
-same_value one other found is is_too = cc (is, is_too)
-
 same_word : (parts : CodeParts) (marks : List Bool) (address : ℕ) (one other : SchemaWord) → IsSchemaWordOf parts marks address one → IsSchemaWordOf parts marks address other → one ≡ other
 same_word parts marks address one other is is_too =
-    let value : is.value ≡ is_too.value = same_value is.value is_too.value (code_word parts.code address) is.there is_too.there in
+    let value : is.value ≡ is_too.value = same_found is.value is_too.value (code_word parts.code address) is.there is_too.there in
     let fall : is.fall ≡ is_too.fall = same_test is.fall is_too.fall is.is_fall is_too.is_fall in
     let taken : is.taken ≡ is_too.taken = same_test is.taken is_too.taken is.is_taken is_too.is_taken in
     let kept : is.kept ≡ is_too.kept = same_test is.kept is_too.kept is.is_kept is_too.is_kept in

@@ -12,6 +12,7 @@ use Rattle.rv_code.specs.Image.{word_count}
 use Rattle.rv_code.specs.Places.{address_of, place_of, code_addresses, AreCodeExtents}
 use Rattle.rv_code.proofs.LawsOfLookUps.{place_of-address_of}
 use Rattle.rv_code.proofs.LawsOfPlaces.{length-code_addresses_of_ranges}
+use Rattle.rv_code.proofs.LawsOfElements.{all_cons_option}
 use Rattle.flow_graph.specs.declared.edge.Edge.{Edge}
 use Rattle.flow_graph.specs.CodeParts.{CodeParts, has_code}
 use Rattle.flow_graph.specs.Edges.{edges_of, kind_by, is_taken_kind, way_among}
@@ -103,10 +104,6 @@ key_by stretches place address taken false None = tt
 key_by stretches place address true false (Some target) = refl
 key_by stretches place address false false (Some target) = refl
 
-all_option : {X : Type 0} (P : X → Type 0) (first : Option X) (rest : List X) → IfSome first P → AllByRecursion P rest → AllByRecursion P (cons_option first rest)
-all_option P None rest holds all = all
-all_option P (Some x) rest holds all = (holds, all)
-
 module _ (parts : CodeParts) (marks : List Bool) (words : List SchemaWord) (order : AreCodeExtents (extents_of parts.code)) (below : AllByRecursion EndsBelowStack (extents_of parts.code))
     (runs : BlocksAreRuns parts) (once : WordsAreInOneBlock parts) (cuts : CutsCycles (edges_of parts) marks) (are : AreSchemaWordsOf parts marks (word_count parts.code) words) where
   abbrev stretches : List Extent
@@ -144,8 +141,8 @@ module _ (parts : CodeParts) (marks : List Bool) (words : List SchemaWord) (orde
 
     own_free : AllByRecursion (IsFree parts marks) (free_edges_as stretches word place address own_class)
     own_free =
-        all_option (IsFree parts marks) (free_edge stretches false own_class word place address) _ (free_by false (is_set (witness_mark false) word.flags) (way_of false own_class word.raw address) refl refl)
-        (all_option (IsFree parts marks) (free_edge stretches true own_class word place address) [] (free_by true (is_set (witness_mark true) word.flags) (way_of true own_class word.raw address) refl refl) tt)
+        all_cons_option (IsFree parts marks) (free_edge stretches false own_class word place address) _ (free_by false (is_set (witness_mark false) word.flags) (way_of false own_class word.raw address) refl refl)
+        (all_cons_option (IsFree parts marks) (free_edge stretches true own_class word place address) [] (free_by true (is_set (witness_mark true) word.flags) (way_of true own_class word.raw address) refl refl) tt)
 
     own_rise : (rest : List Edge) → Rise (2 * place + 2) rest → Rise (2 * place) (free_edges_as stretches word place address own_class ++ rest)
     own_rise rest rise =

@@ -12,6 +12,8 @@ use Rattle.rv_code.specs.Code.{extents_of}
 use Rattle.rv_code.specs.Image.{word_count}
 use Rattle.rv_code.specs.Places.{address_of, code_addresses, AreCodeExtents}
 use Rattle.rv_code.proofs.LawsOfLookUps.{address_of-place_of}
+use Rattle.rv_code.proofs.LawsOfPlaces.{is_code-aligned}
+use Rattle.rv_code.proofs.LawsOfElements.{same_item}
 use Rattle.flow_graph.specs.declared.edge.Edge.{Edge}
 use Rattle.flow_graph.specs.Blocks.{block_at, is_last}
 use Rattle.flow_graph.specs.CodeParts.{CodeParts, has_code}
@@ -20,6 +22,7 @@ use Rattle.flow_graph.specs.Laws.{BlocksAreRuns, WordsAreInOneBlock}
 use Rattle.graph_paths.specs.Paths.{Path, here, over, Closes}
 use Rattle.graph_paths.proofs.LawsOfPaths.{Path-edge, Path-turned}
 use Rattle.graph_paths.proofs.LawsOfForests.{HasNoCycle-within}
+use Rattle.graph_paths.proofs.LawsOfTwoSorts.{two_sorts, numbers_below, among_numbers, numbers_among, numbers_once, path_over_parts}
 use Rattle.flow_tree.specs.WitnessEdges.{LeadsTo, Joins, joins_forth, joins_back, IsUnmarked, CutsCycles}
 use Rattle.flow_tree.proofs.LawsOfJoins.{Joins-IsUndirected}
 use Rattle.schema_form.specs.declared.word.SchemaWord.{SchemaWord}
@@ -27,8 +30,7 @@ use Rattle.schema_form.specs.FreeEdges.{free_edges, HaveNoCycle}
 use Rattle.schema_form.specs.OfImage.{AreSchemaWordsOf}
 use Rattle.schema_form.specs.Valid.{EndsBelowStack}
 use Rattle.schema_form.proofs.OwnEdges.{IsFree, code_at, small_at, free_at, one_edge, target_code}
-use Rattle.graph_paths.proofs.LawsOfTwoSorts.{two_sorts, numbers_below, among_numbers, numbers_among, numbers_once, path_over_parts}
-use Rattle.schema_form.proofs.WordBlocks.{edge_for, has_block, goes_on, taken_ends, falls_behind, is_code_aligned}
+use Rattle.schema_form.proofs.WordBlocks.{edge_for, has_block, goes_on, taken_ends, falls_behind}
 
 -- an edge that leads from one place to another
 record Leading (edges : List Edge) (number from to : ℕ) : Type 0 where
@@ -48,9 +50,6 @@ leading edges number from to leads = let found = leading_by (slice_get edges num
 leads_by : (edges : List Edge) (number from to : ℕ) (edge : Edge) → slice_get edges number ≡ Some edge → edge.source ≡ from → edge.to ≡ Some to → LeadsTo edges number from to
 leads_by edges number from to edge there source goal =
     ap (option_map (λ (e : Edge). (e.source, e.to))) there ∙ (λ i. Some (source i, goal i))
-
-same_item : (edges : List Edge) (one other : ℕ) (x y : Edge) → one ≡ other → slice_get edges one ≡ Some x → slice_get edges other ≡ Some y → x ≡ y
-same_item edges one other x y same is is_too = cc (same, is, is_too)
 
 abbrev number_in : Option ℕ → ℕ
 number_in None = 0
@@ -167,7 +166,7 @@ module _ (parts : CodeParts) (marks : List Bool) (words : List SchemaWord) (orde
         same = ap part (sym lead.source) ∙ part_is edge.source edge.from block.0 free.at block.1 ∙ sym (part_is to edge.target block.0 at_goal next);
         first = ap address_at (sym lead.source) ∙ address_is edge.source edge.from free.at;
         next = address_is to edge.target at_goal ∙ behind;
-        round = is_code_aligned stretches edge.from code;
+        round = is_code-aligned stretches edge.from code;
       }
 
   -- the two sorts of edges
@@ -253,7 +252,7 @@ module _ (parts : CodeParts) (marks : List Bool) (words : List SchemaWord) (orde
     low_step : (other one two : ℕ) → others other → Joins frees other one two → address_at one ≤ is.edge.from → address_at two ≤ is.edge.from
     low_step other one two is_other (joins_forth leads) low =
         let step = inside_lead other one two is_other.0.edge is_other.0.there is_other.0.sort leads in
-        let mine = is_code_aligned stretches is.edge.from (code_from is.edge (is_free number is.edge is.there)) in
+        let mine = is_code-aligned stretches is.edge.from (code_from is.edge (is_free number is.edge is.there)) in
         let first = step.first in
         let next = step.next in
         let round = step.round in

@@ -21,7 +21,8 @@ use Rattle.rv_code.specs.Places.{address_of, place_of, code_addresses, words_of}
 use Rattle.rv_code.specs.Table.{meaning_of}
 use Rattle.rv_code.specs.Ways.{way_to}
 use Rattle.rv_code.proofs.LawsOfLookUps.{address_of-place_of, is_some-code_word}
-use Rattle.rv_code.proofs.LawsOfPlaces.{is_word_of-Contains, length-code_addresses_of_ranges}
+use Rattle.rv_code.proofs.LawsOfPlaces.{is_word_of-Contains, length-code_addresses_of_ranges, is_code-aligned}
+use Rattle.rv_code.proofs.LawsOfTests.{none_there}
 use Rattle.flow_graph.specs.CodeParts.{CodeParts}
 use Rattle.flow_graph.specs.Edges.{edges_of, is_taken_kind, way_among}
 use Rattle.flow_graph.specs.Laws.{IsEdge}
@@ -30,7 +31,6 @@ use Rattle.need_sets.specs.Needed.{IsNeeded, IsHard}
 use Rattle.need_sets.specs.Words.{class_at}
 use Rattle.schema_form.specs.declared.flags.TheConstants.{KEPT}
 use Rattle.schema_form.specs.declared.word.SchemaWord.{SchemaWord}
-use Rattle.ev_format.specs.declared.slot.Slot.{Slot}
 use Rattle.schema_form.specs.CodeShape.{RecordsValue, IsSlotOf, AreNeedsAt, SchemasFindTheirWords, SchemasHaveTheShape, ShapesOfCodeAreShapes}
 use Rattle.schema_form.specs.Flags.{class_in, is_set}
 use Rattle.schema_form.specs.LookUps.{but_x0, first_start, gives_value, is_indirect, schema_word_at, slot_by}
@@ -39,15 +39,7 @@ use Rattle.schema_form.specs.SchemaParts.{SchemaParts}
 use Rattle.schema_form.proofs.LawsOfSchemaWords.{class_there, class_told, fall_told, taken_told, kept_told}
 use Rattle.schema_form.proofs.OwnWords.{never_x0}
 use Rattle.schema_form.proofs.Rows.{all_at}
-
--- code words lie at multiples of 4
-pub is_code-aligned : (extents : List Extent) (address : ℕ) → is_code extents address ≡ true → address % 4 ≡ 0
-is_code-aligned [] address is = absurd (cc)
-is_code-aligned (extent ∷ extents) address is = elim (or_cases (is_word_of extent address) (is_code extents address) is) [
-  | inl here ↦
-      let lies : (extent.start ≤ address) × (address < extent.start + 4 * extent.count) × (address % 4 ≡ 0) = grind (arith, nat_tests) in lies.2
-  | inr there ↦ is_code-aligned extents address there
-]
+use Rattle.ev_format.specs.declared.slot.Slot.{Slot}
 
 -- the first word of an extent
 first_word : (start count : ℕ) → 0 < count → Contains (words_of (record { start = start; count = count })) start
@@ -81,10 +73,6 @@ not_found words address none (place, within, same) =
           sym (ap (λ t. cond t (Some (position_or_len (λ word. word == address) words)) None) below) ∙ none in
           cc clash
     ]
-
-no_word : (found : Option ℕ) → is_some found ≡ false → found ≡ None
-no_word None is = refl
-no_word (Some word) is = absurd (cc)
 
 one_class : (one other : Class) (found : Option Class) → found ≡ Some one → found ≡ Some other → one ≡ other
 one_class one other found is is_too = cc (is, is_too)
@@ -246,7 +234,7 @@ module _ (parts : CodeParts) (marks : List Bool) where
           | inl code ↦ absurd (absent address none code)
           | inr other ↦ other
         ] in
-        let wordless : code_word parts.code address ≡ None = no_word (code_word parts.code address) (is_some-code_word parts.code address ∙ outside) in
+        let wordless : code_word parts.code address ≡ None = none_there (code_word parts.code address) (is_some-code_word parts.code address ∙ outside) in
         let found : schema_word_at schema address ≡ None = look_up address None none in (
           subst (λ found. IsSlotOf parts marks address (slot_by found)) (sym found) (slot_nowhere address wordless outside),
           subst (λ found. AreNeedsAt parts.code address (option_map (λ (word : SchemaWord). but_x0 word.mask) found)) (sym found) (needs_nowhere address outside),

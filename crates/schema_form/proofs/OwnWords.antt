@@ -2,7 +2,7 @@
 use Rattle.std.proofs.Common.{◌≡◌, inl, inr, ℕ, zero, suc, ◌+◌, ◌*◌, ◌/◌, ◌%◌, ◌<◌, ◌≤◌, ◌^◌, Bool, true, false, cond, List, Option, Some, None, is_some, refl, sym, ap, ◌∙◌, arith}
 use Rattle.std.specs.Prelude.{◌↔◌, IsTrue, position, ◌&&◌, ◌||◌, ◌==◌, not, nat_le, slice_get}
 use Rattle.std.specs.Option.{option_map, option_map_or, option_and_then}
-use Rattle.std.proofs.lemmas.Bool.{cases_Bool, cases_eq, eq-eqb, eqb-true, ne_eqb, lt-leb, and_parts}
+use Rattle.std.proofs.lemmas.Bool.{cases_Bool, cases_eq, eq-eqb, eqb-true, ne_eqb, lt-leb, and_parts, and_from, or_from}
 use Rattle.std.proofs.lemmas.Nat.Bits.{bit_at_lowest}
 use Rattle.rv_code.specs.declared.class.Class.{Class}
 use Rattle.rv_code.specs.declared.class.Class.TheVariants.{Plain, Load, Store, Branch, Jump, Indirect, Call, Stop}
@@ -143,12 +143,6 @@ zero_stays : (address : ℕ) → target_of (meaning_of 0) address ≡ None
 unfolding meaning_of
 zero_stays address = refl
 
-or_none : (x y : Bool) → x ≡ false → y ≡ false → (x || y) ≡ false
-or_none x y one other = ap (λ t. t || y) one ∙ other
-
-and_both : (x y : Bool) → x ≡ true → y ≡ true → (x && y) ≡ true
-and_both x y one other = ap (λ t. t && y) one ∙ other
-
 -- what is kept is used
 kept_used : (code : List Range) (address : ℕ) → GivesKept code address → IsUsed code address
 kept_used code address (inl kept) = kept.1
@@ -165,9 +159,6 @@ may_keep code address class is (inr load) = let same : Load ≡ class = one_clas
   where
     one_class : ◌≡◌ {A = Option Class} (Some Load) (Some class) → Load ≡ class
     one_class both = cc both
-
-same_edge : (edges : List Edge) (one other : ℕ) (x y : Edge) → one ≡ other → slice_get edges one ≡ Some x → slice_get edges other ≡ Some y → x ≡ y
-same_edge edges one other x y same is is_too = cc (same, is, is_too)
 
 module _ (parts : CodeParts) (marks : List Bool) (runs : BlocksAreRuns parts) (once : WordsAreInOneBlock parts) (cuts : CutsCycles (edges_of parts) marks) where
   -- a way that leads out of the code is recorded
@@ -267,7 +258,7 @@ module _ (parts : CodeParts) (marks : List Bool) (runs : BlocksAreRuns parts) (o
     raw_by true raw = eq-eqb word.raw 0 raw
     raw_by false raw =
         ap (λ (n : ℕ). (class_number (class_of (meaning_of n)) == class_number class) && (not is.kept || is_some (written_by (meaning_of n)))) raw
-        ∙ and_both _ _ (eq-eqb (class_number class) (class_number class) refl) (writes_kept is.kept is.is_kept.0)
+        ∙ and_from _ _ (eq-eqb (class_number class) (class_number class) refl) (writes_kept is.kept is.is_kept.0)
 
     raw_allowed : raw_fits class (is_set KEPT word.flags) word.raw ≡ true
     raw_allowed = ap (λ (kept : Bool). raw_fits class kept word.raw) kept_found ∙ raw_by ((class_number class == 0) && not is.kept) is.raw
@@ -288,5 +279,5 @@ module _ (parts : CodeParts) (marks : List Bool) (runs : BlocksAreRuns parts) (o
     pub word_fits : word_misfits (extents_of parts.code) address word ≡ false
     word_fits =
         ap (λ (c : Option Class). option_map_or (misfits_as (extents_of parts.code) address word) c true) class_found
-        ∙ or_none _ _ (or_none _ _ (or_none _ _ (or_none _ _ (or_none _ _ few_marks (ap not raw_allowed)) mask_even) (edge_fits false)) (edge_fits true))
+        ∙ or_from _ _ (or_from _ _ (or_from _ _ (or_from _ _ (or_from _ _ few_marks (ap not raw_allowed)) mask_even) (edge_fits false)) (edge_fits true))
         (ap (λ (kept : Bool). kept && not (may_be_kept class)) kept_found ∙ keeps_rightly is.kept is.is_kept.0)

@@ -5,15 +5,13 @@ use Rattle.std.specs.List.{find, range_with_len}
 use Rattle.std.proofs.Math.Nat.{mul-suc}
 use Rattle.std.proofs.lemmas.List.{length-append, drop_at}
 use Rattle.rv_code.specs.Numbers.{IsWord, bytes_of, number_of}
+use Rattle.rv_code.proofs.LawsOfBytes.{number_of-bytes_of}
 use Rattle.schema_form.specs.Layout.{word_from}
-
-word_again : (w : ℕ) → IsWord w → number_of (bytes_of 4 w) ≡ w
-word_again w small = omega arith
 
 -- a word that stands behind others is what is said at its offset
 pub word_back : (front : List ℕ) (w : ℕ) (rest : List ℕ) (offset : ℕ) → length front ≡ offset → IsWord w → word_from (front ++ (bytes_of 4 w ++ rest)) offset ≡ w
 word_back front w rest offset long small =
-    ap (λ list. number_of (take 4 list)) (drop_at front (bytes_of 4 w ++ rest) offset long) ∙ word_again w small
+    ap (λ list. number_of (take 4 list)) (drop_at front (bytes_of 4 w ++ rest) offset long) ∙ number_of-bytes_of w small
 
 -- rows of one length, one of which stands behind others
 pub record RowAt {X : Type 0} (row : X → List ℕ) (size : ℕ) (xs : List X) (place : ℕ) (x : X) : Type 0 where

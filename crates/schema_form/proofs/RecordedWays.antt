@@ -11,6 +11,7 @@ use Rattle.rv_code.specs.Code.{extents_of}
 use Rattle.rv_code.specs.Image.{word_count}
 use Rattle.rv_code.specs.Places.{address_of, place_of, ExtentsRise}
 use Rattle.rv_code.proofs.LawsOfLookUps.{place_of-address_of, address_of-place_of}
+use Rattle.rv_code.proofs.LawsOfElements.{same_item}
 use Rattle.flow_graph.specs.declared.edge.Edge.{Edge}
 use Rattle.flow_graph.specs.declared.edge.Kind.{Kind}
 use Rattle.flow_graph.specs.declared.edge.Kind.TheVariants.{Fall, Taken}
@@ -61,9 +62,6 @@ kind_again Fall taken is = ap kind_by is
 way_again : (kind : Kind) (taken : Bool) → kind ≡ kind_by taken → is_taken_kind kind ≡ taken
 way_again kind true is = ap is_taken_kind is
 way_again kind false is = ap is_taken_kind is
-
-same_item : {X : Type 0} (xs : List X) (one other : ℕ) (x y : X) → one ≡ other → slice_get xs one ≡ Some x → slice_get xs other ≡ Some y → x ≡ y
-same_item xs one other x y same is is_too = cc (same, is, is_too)
 
 module _ (parts : CodeParts) (marks : List Bool) (taken : Bool) where
   pub none_recorded : (cells : List Bool) → length cells ≡ word_count parts.code → ((place : ℕ) → slice_index_or cells place false ≡ false) → AreRecordedBefore parts marks taken 0 cells

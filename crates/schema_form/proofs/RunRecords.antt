@@ -12,6 +12,7 @@ use Rattle.rv_code.specs.Endings.{detail_of}
 use Rattle.rv_code.specs.Laws.{IsItsWord}
 use Rattle.rv_code.specs.Numbers.{IsWord, number_of}
 use Rattle.rv_code.specs.Table.{meaning_of}
+use Rattle.rv_code.proofs.LawsOfPlaces.{is_code-aligned}
 use Rattle.rv_memory.specs.Memory.{bytes_at, span}
 use Rattle.rv_machine.specs.State.{State, register_of}
 use Rattle.rv_machine.specs.Effect.{Effect, Passes, Sets, Stores, Jumps, Gives, Takes, Ends}
@@ -29,7 +30,6 @@ use Rattle.ev_format.specs.Spelling.{kind_in}
 use Rattle.schema_form.specs.EventFiles.{EventFilesAreReadBack}
 use Rattle.schema_form.specs.RunEvents.{recorded_if, values_needed, end_event, value_events, fall_events, jump_events, events_at_end, effect_events, registers_after, word_events, events_of_fetched, step_events, events_behind_step, events_from}
 use Rattle.schema_form.proofs.EffectWords.{ShowsWords, register_word, fetched_word, effect_shows}
-use Rattle.schema_form.proofs.OwnShape.{is_code-aligned}
 use Rattle.schema_form.proofs.Rows.{all_append}
 
 -- the values of a landing

@@ -33,8 +33,8 @@ module _ (bytes : List ℕ) (small : (i : ℕ) → get_or bytes i 0 < 256) (none
   head_none : head_refusal bytes ≡ None
   head_none = none_first (head_refusal bytes) (body_refusal bytes (stretches_from bytes (stretch_count bytes)) (stretch_offset (stretch_count bytes))) none
 
-  body_none : body_refusal bytes (stretches_from bytes (stretch_count bytes)) (stretch_offset (stretch_count bytes)) ≡ None
-  body_none = none_second (head_refusal bytes) (body_refusal bytes (stretches_from bytes (stretch_count bytes)) (stretch_offset (stretch_count bytes))) none
+  pub body : body_refusal bytes (stretches_from bytes (stretch_count bytes)) (stretch_offset (stretch_count bytes)) ≡ None
+  body = none_second (head_refusal bytes) (body_refusal bytes (stretches_from bytes (stretch_count bytes)) (stretch_offset (stretch_count bytes))) none
 
   front_none : front_refusal bytes ≡ None
   front_none = none_first (front_refusal bytes) (stretch_refusal bytes (stretch_count bytes)) head_none
@@ -44,9 +44,6 @@ module _ (bytes : List ℕ) (small : (i : ℕ) → get_or bytes i 0 < 256) (none
 
   pub head : AreHeadOf bytes (stretches_from bytes (stretch_count bytes))
   head = are_head bytes (stretches_from bytes (stretch_count bytes)) front_none rows_none refl
-
-  pub body : body_refusal bytes (stretches_from bytes (stretch_count bytes)) (stretch_offset (stretch_count bytes)) ≡ None
-  body = body_none
 
   header_spelled : head_bytes parts ++ drop 12 bytes ≡ bytes
   header_spelled =
@@ -64,9 +61,9 @@ module _ (bytes : List ℕ) (small : (i : ℕ) → get_or bytes i 0 < 256) (none
 
   pub same_bytes : bytes ≡ schema_bytes parts
   same_bytes =
-      let whole = words_whole bytes small (stretches_from bytes (stretch_count bytes)) first (words_fit bytes (stretches_from bytes (stretch_count bytes)) first body_none) head.whole
+      let whole = words_whole bytes small (stretches_from bytes (stretch_count bytes)) first (words_fit bytes (stretches_from bytes (stretch_count bytes)) first body) head.whole
       (words_total (stretches_from bytes (stretch_count bytes))) (omega arith) in
-      let last = end_fits bytes (stretches_from bytes (stretch_count bytes)) first body_none in
+      let last = end_fits bytes (stretches_from bytes (stretch_count bytes)) first body in
       let none_left : drop (word_offset first (words_total (stretches_from bytes (stretch_count bytes)))) bytes ≡ [] = drop_all _ bytes last in
       let words : flat_map schema_word_bytes parts.words ≡ drop first bytes =
       sym (append-nil (flat_map schema_word_bytes parts.words)) ∙ ap (λ list. flat_map schema_word_bytes parts.words ++ list) (sym none_left)

@@ -4,7 +4,7 @@ use Rattle.std.specs.Prelude.{◌||◌, ◌==◌, not, nat_lt, slice_get}
 use Rattle.std.specs.List.{find, range_with_len}
 use Rattle.std.specs.Option.{option_map_or, option_or}
 use Rattle.std.specs.Str.{bytes_eq}
-use Rattle.std.proofs.lemmas.Bool.{or_parts, not-false, ltb-false, eqb-false}
+use Rattle.std.proofs.lemmas.Bool.{or_parts, not-false, ltb-false}
 use Rattle.std.proofs.lemmas.List.FromFn.{length-map-range_with_len}
 use Rattle.std.proofs.lemmas.Option.{slice_get-get_or, same_Some, slice_get_within}
 use Rattle.std.proofs.lemmas.List.FromFn.{get_or-map-range_with_len}
@@ -14,6 +14,7 @@ use Rattle.rv_code.specs.Numbers.{IsWord, number_of}
 use Rattle.rv_code.specs.Limits.{ranges_limit}
 use Rattle.rv_code.specs.Places.{address_of}
 use Rattle.rv_code.proofs.LawsOfRows.{none_left, none_mapped, none_first, none_second, each_fails}
+use Rattle.rv_code.proofs.LawsOfTests.{not_zero}
 use Rattle.schema_form.specs.declared.fault.SchemaFault.{SchemaFault}
 use Rattle.schema_form.specs.declared.fault.SchemaFault.TheVariants.{NotSchema, BadEntry, TooLarge}
 use Rattle.schema_form.specs.declared.limits.TheConstants.{SCHEMA_LIMIT}
@@ -37,9 +38,6 @@ pub record HeaderFits (bytes : List ℕ) : Type 0 where
   pub some : 0 < stretch_count bytes
   pub ranges : stretch_count bytes ≤ ranges_limit
 
-no_zero : (n : ℕ) → (n == 0) ≡ false → 0 < n
-no_zero n is = let differ = eqb-false n 0 is in omega (arith, differ)
-
 pub header_fits : (bytes : List ℕ) → front_refusal bytes ≡ None → HeaderFits bytes
 header_fits bytes none =
     let small = none_left (nat_lt SCHEMA_LIMIT (length bytes)) TooLarge _ none in
@@ -51,7 +49,7 @@ header_fits bytes none =
       few = ltb-false SCHEMA_LIMIT (length bytes) small.0;
       magic = not-false (bytes_eq (take 4 bytes) schema_magic) magic.0;
       whole = let whole = ltb-false (length bytes) (stretch_offset 0) one.0 in omega (arith, whole);
-      some = no_zero (stretch_count bytes) one.1;
+      some = not_zero (stretch_count bytes) one.1;
       ranges = ltb-false ranges_limit (stretch_count bytes) two.1;
     }
 

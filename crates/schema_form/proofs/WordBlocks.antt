@@ -1,18 +1,19 @@
 -- The blocks of code words, and the edges that leave them.
-use Rattle.std.proofs.Common.{◌≡◌, inl, inr, ℕ, zero, suc, ◌+◌, ◌%◌, ◌<◌, ◌≤◌, ◌^◌, Bool, true, false, cond, ltb, List, [], ◌∷◌, ◌++◌, length, get_or, Option, Some, None, refl, sym, ap, ◌∙◌, arith}
-use Rattle.std.specs.Prelude.{◌&&◌, ◌||◌, ◌==◌, not, slice_get, position, nat_le, nat_lt, flat_map, count_by}
+use Rattle.std.proofs.Common.{◌≡◌, inl, inr, ℕ, zero, suc, ◌+◌, ◌<◌, ◌≤◌, ◌^◌, Bool, true, false, cond, ltb, List, [], ◌∷◌, ◌++◌, length, get_or, Option, Some, None, refl, sym, ap, ◌∙◌, arith}
+use Rattle.std.specs.Prelude.{not, slice_get, position, nat_le, flat_map, count_by}
 use Rattle.std.specs.List.{cons_option, enumerate_from, position_or_len}
 use Rattle.std.specs.Option.{option_map, option_map_or, option_and_then}
-use Rattle.std.proofs.lemmas.Bool.{cases_Bool, cases_eq, or_cases, or_parts, and_parts, le-leb, lt-ltb, eqb-true, not-false, not_from_false}
+use Rattle.std.proofs.lemmas.Bool.{cases_Bool, cases_eq, or_parts, and_parts, le-leb, lt-ltb, not-false, not_from_false, and_from, or_left, or_right}
 use Rattle.std.proofs.lemmas.List.Sums.{sum_by-cons, position_or_len_is}
 use Rattle.std.proofs.lemmas.Option.{slice_get-get_or}
-use Rattle.rv_code.specs.declared.extent.Extent.{Extent}
 use Rattle.rv_code.specs.declared.instr.Instr.{Instr}
-use Rattle.rv_code.specs.Code.{extents_of, is_code, is_word_of, extent_end}
+use Rattle.rv_code.specs.Code.{extents_of}
 use Rattle.rv_code.specs.declared.instr.Instr.TheVariants.{Lui, Auipc, Jal, Jalr, Branch, Load, Store, OpImm, Op, Fence, Ecall, Ebreak, Bad}
 use Rattle.rv_code.specs.Numbers.{wrap}
 use Rattle.rv_code.specs.Parts.{class_of, target_of}
 use Rattle.rv_code.specs.Ways.{way_to, ends_a_run, falls}
+use Rattle.rv_code.proofs.LawsOfTests.{same_found}
+use Rattle.rv_code.proofs.LawsOfPlaces.{is_code-aligned}
 use Rattle.flow_graph.specs.declared.block.Block.{Block}
 use Rattle.flow_graph.specs.declared.edge.Edge.{Edge}
 use Rattle.flow_graph.specs.Blocks.{blocks_of, block_at, holds, is_last, is_end_among}
@@ -60,21 +61,6 @@ module _ {X : Type 0} (p : X → Bool) (none : X) where
     | inl set ↦ absurd (omega (arith, once, count_yes x xs set, counted xs one (omega arith) is))
     | inr clear ↦ ap suc (only_holder xs one other (sym (count_no x xs clear) ∙ once) (omega arith) (omega arith) is is_too)
   ]
-
-pub is_code_aligned : (extents : List Extent) (address : ℕ) → is_code extents address ≡ true → address % 4 ≡ 0
-is_code_aligned [] address code = absurd (cc code)
-is_code_aligned (extent ∷ extents) address code = elim (or_cases (is_word_of extent address) (is_code extents address) code) [
-  | inl this ↦
-      let both = and_parts (nat_le extent.start address && nat_lt address (extent_end extent)) (address % 4 == 0) this in
-      eqb-true (address % 4) 0 both.1
-  | inr other ↦ is_code_aligned extents address other
-]
-
-and_both : (x y : Bool) → x ≡ true → y ≡ true → (x && y) ≡ true
-and_both x y one other = ap (λ t. t && y) one ∙ other
-
-same_some : (one other : ℕ) (found : Option ℕ) → found ≡ Some one → found ≡ Some other → one ≡ other
-same_some one other found is is_too = cc (is, is_too)
 
 abbrev pub none_block : Block
 none_block = record { leader = 0; last = 0 }
@@ -129,16 +115,16 @@ module _ (parts : CodeParts) (runs : BlocksAreRuns parts) (once : WordsAreInOneB
       let there = block_there parts (address + 4) other.0 none_block runs next other.1 in
       let begins = there.is.begins in
       let led = and_parts (has_code parts block.leader) (is_one_of (block_starts parts) block.leader) begins in
-      let round = is_code_aligned (extents_of parts.code) block.leader led.0 in
-      let round_too = is_code_aligned (extents_of parts.code) address code in
+      let round = is_code-aligned (extents_of parts.code) block.leader led.0 in
+      let round_too = is_code-aligned (extents_of parts.code) address code in
       let apart : block.leader ≡ address + 4 → ⊥ = λ same. let clash : true ≡ false = sym begins ∙ ap (is_leader parts) same ∙ both.1 in cc clash in
       let above = there.above in
       let below = there.below in
       let lower : block.leader ≤ address = elim (cases_eq block.leader (address + 4)) [ inl same ↦ absurd (apart same) | inr differ ↦ omega (arith, above, differ, round, round_too) ] in
       let mine : block_at parts address ≡ Some other.0 =
-      block_is address other.0 code there.within (and_both (nat_le block.leader address) (nat_le address block.last) (le-leb block.leader address lower) (le-leb address block.last (omega (arith, below)))) in (
+      block_is address other.0 code there.within (and_from (nat_le block.leader address) (nat_le address block.last) (le-leb block.leader address lower) (le-leb address block.last (omega (arith, below)))) in (
         next,
-        λ number is. other.1 ∙ ap (λ (n : ℕ). Some n) (same_some other.0 number (block_at parts address) mine is),
+        λ number is. other.1 ∙ ap (λ (n : ℕ). Some n) (same_found other.0 number (block_at parts address) mine is),
       )
 
 -- an item of the front stands in the whole, and so does one of the back
@@ -234,13 +220,6 @@ run_ends : (instr : Option Instr) (address target : ℕ) → option_and_then (λ
 run_ends None address target is = absurd (cc is)
 run_ends (Some instr) address target is = target_ends instr address target is
 
-or_first : (x y : Bool) → x ≡ true → (x || y) ≡ true
-or_first x y is = ap (λ t. t || y) is
-
-or_second : (x y : Bool) → y ≡ true → (x || y) ≡ true
-or_second true y is = refl
-or_second false y is = is
-
 fall_leads : (instr : Option Instr) (address target : ℕ) → address + 4 < 2 ^ 32 → option_and_then (λ (i : Instr). way_to false i address) instr ≡ Some target → target ≡ address + 4
 fall_leads None address target small is = absurd (cc is)
 fall_leads (Some instr) address target small is = of_class (falls (class_of instr)) is
@@ -251,7 +230,7 @@ fall_leads (Some instr) address target small is = of_class (falls (class_of inst
 
 module _ (parts : CodeParts) (address target : ℕ) where
   pub taken_ends : way_among parts.code true address ≡ Some target → is_last parts address ≡ true
-  taken_ends way = or_first _ (is_end_among parts.code (block_starts parts) address) (run_ends (instr_in parts.code address) address target way)
+  taken_ends way = or_left _ (is_end_among parts.code (block_starts parts) address) (run_ends (instr_in parts.code address) address target way)
 
   -- where a way falls to
   pub falls_behind : address + 4 < 2 ^ 32 → way_among parts.code false address ≡ Some target → target ≡ address + 4
@@ -262,5 +241,5 @@ module _ (parts : CodeParts) (address target : ℕ) where
   leaving_ends true small way none = taken_ends way
   leaving_ends false small way none =
       let behind : has_code parts (address + 4) ≡ false = sym (ap (has_code parts) (falls_behind small way)) ∙ none in
-      or_second _ (is_end_among parts.code (block_starts parts) address)
-      (or_first (not (has_code parts (address + 4))) (is_leader parts (address + 4)) (not_from_false (has_code parts (address + 4)) behind))
+      or_right _ (is_end_among parts.code (block_starts parts) address)
+      (or_left (not (has_code parts (address + 4))) (is_leader parts (address + 4)) (not_from_false (has_code parts (address + 4)) behind))

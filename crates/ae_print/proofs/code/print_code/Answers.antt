@@ -1,10 +1,10 @@
 use Rattle.std.proofs.Common.{[], rules, ap, ◌∙◌}
 use Rattle.std.specs.List.{flat_map}
 use Rattle.ae_print.specs.CodeText.{range_lines, code_text}
-use Rattle.ae_nums.proofs.LawsOfWriters.{Puts-same}
-use Rattle.ae_ports.proofs.LawsOfFaults.{OnErr-always, HasCause-failed}
-use Rattle.ae_print.proofs.GivenBack.{front_at, cause_at}
 use Rattle.ae_print.proofs.code.print_code.Goals as goal
+use Rattle.ae_nums.proofs.LawsOfWriters.{Puts-same}
+use Rattle.ae_ports.proofs.LawsOfFaults.{OnErr-always, HasCause-failed, HasCause-at}
+use Rattle.ae_ports.proofs.LawsOfContent.{AppendsFront-at}
 
 pub returns-clause-all : goal.returns-clause-all
 returns-clause-all g c =
@@ -18,24 +18,24 @@ returns-clause-front g c =
     let text = code_text c.args.image.now in
     let written = (Puts-same _ _ _ text _ c.write_ranges.ensures (ap (flat_map range_lines) c.as_slice.ensures ∙ ap code_text c.image.view_is)).wrote.behind _ [] c.new-lines.ensures.begun in
     let finished = c.finish.ensures.finished _ text written in
-    front_at _ _ _ _ text (search rules) finished.front
+    AppendsFront-at _ _ _ _ text (search rules) finished.front
 
 pub returns-clause-cause : goal.returns-clause-cause
 returns-clause-cause g c =
     let text = code_text c.args.image.now in
     let written = (Puts-same _ _ _ text _ c.write_ranges.ensures (ap (flat_map range_lines) c.as_slice.ensures ∙ ap code_text c.image.view_is)).wrote.behind _ [] c.new-lines.ensures.begun in
     let finished = c.finish.ensures.finished _ text written in
-    cause_at _ _ _ _ (search rules) finished.cause
+    HasCause-at _ _ _ _ (search rules) finished.cause
 
 pub returns-in_err-write_ranges-clause-front : goal.returns-in_err-write_ranges-clause-front
 returns-in_err-write_ranges-clause-front g c =
     let text = code_text c.args.image.now in
     let written = (Puts-same _ _ _ text _ c.write_ranges.ensures (ap (flat_map range_lines) c.as_slice.ensures ∙ ap code_text c.image.view_is)).wrote.behind _ [] c.new-lines.ensures.begun in
-    front_at _ _ _ _ text (search rules) (OnErr-always _ _ written.front)
+    AppendsFront-at _ _ _ _ text (search rules) (OnErr-always _ _ written.front)
 
 pub returns-in_err-write_ranges-clause-cause : goal.returns-in_err-write_ranges-clause-cause
 returns-in_err-write_ranges-clause-cause g c =
     let text = code_text c.args.image.now in
     let written = (Puts-same _ _ _ text _ c.write_ranges.ensures (ap (flat_map range_lines) c.as_slice.ensures ∙ ap code_text c.image.view_is)).wrote.behind _ [] c.new-lines.ensures.begun in
     let broken = c.in_err-write_ranges.ensures.broken in
-    cause_at _ _ _ _ (search rules) (HasCause-failed _ _ _ c.from_residual.ensures.0 written.later (written.risen broken))
+    HasCause-at _ _ _ _ (search rules) (HasCause-failed _ _ _ c.from_residual.ensures.0 written.later (written.risen broken))

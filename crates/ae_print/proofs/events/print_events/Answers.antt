@@ -1,7 +1,7 @@
 use Rattle.std.proofs.Common.{rules}
-use Rattle.ae_ports.proofs.LawsOfFaults.{HasCause-failed}
+use Rattle.ae_ports.proofs.LawsOfFaults.{HasCause-failed, HasCause-at, HasCause-success}
 use Rattle.ae_print.specs.EventText.{IsBegunEventText, to_its_stop, IsEventText}
-use Rattle.ae_print.proofs.EventsRead.{after_error, cause_after, cause_of}
+use Rattle.ae_print.proofs.EventsRead.{after_error}
 use Rattle.ae_print.proofs.SomeFinished.{some_written, some_all, some_front, some_let_go}
 use Rattle.ae_print.proofs.events.print_events.Goals as goal
 
@@ -18,7 +18,7 @@ returns-in_err-stop-clause-cause g c =
     let some = c.in_err-stop.ensures.front in
     let written = some_written g.K.Sink.told g.K.Sink.faults g.K.Sink.same_rest is_begun _ _ _ c.new-lines.ensures.begun some in
     let broken = c.in_err-stop.ensures.broken in
-    cause_of _ _ _ _ (search rules) (HasCause-failed _ _ _ c.from_residual.ensures.0 written.later (written.risen broken))
+    HasCause-at _ _ _ _ (search rules) (HasCause-failed _ _ _ c.from_residual.ensures.0 written.later (written.risen broken))
 
 pub returns-in_err-finish-clause-front : goal.returns-in_err-finish-clause-front
 returns-in_err-finish-clause-front g c =
@@ -36,7 +36,7 @@ returns-in_err-finish-clause-cause g c =
     let some = c.in_ok-stop.ensures.all in
     let written = some_written g.K.Sink.told g.K.Sink.faults g.K.Sink.same_rest (IsEventText shape bytes c.in_ok-stop.stop) _ _ _ c.new-lines.ensures.begun some in
     let cause = (c.in_err-finish.ensures.finished _ some.text written).cause in
-    cause_of _ _ _ _ (search rules) (HasCause-failed _ _ _ c.from_residual-in_err-finish.ensures.0 cause.later cause.risen)
+    HasCause-at _ _ _ _ (search rules) (HasCause-failed _ _ _ c.from_residual-in_err-finish.ensures.0 cause.later cause.risen)
 
 pub returns-clause-all : goal.returns-clause-all
 returns-clause-all g c =
@@ -54,4 +54,4 @@ returns-clause-cause g c =
     let some = c.in_ok-stop.ensures.all in
     let written = some_written g.K.Sink.told g.K.Sink.faults g.K.Sink.same_rest (IsEventText shape bytes c.in_ok-stop.stop) _ _ _ c.new-lines.ensures.begun some in
     let cause = (c.in_ok-finish.ensures.finished _ some.text written).cause in
-    cause_of _ _ _ _ (search rules) (cause_after _ _ c.in_ok-stop.stop _ cause)
+    HasCause-at _ _ _ _ (search rules) (HasCause-success _ _ c.in_ok-stop.stop _ cause)

@@ -1,9 +1,8 @@
 use Rattle.std.proofs.Common.{rules}
 use Rattle.rv_code.specs.Code.{extents_of}
 use Rattle.rv_code.specs.Places.{code_addresses}
-use Rattle.ae_ports.proofs.LawsOfFaults.{HasCause-failed}
+use Rattle.ae_ports.proofs.LawsOfFaults.{HasCause-failed, HasCause-at}
 use Rattle.ae_print.specs.NeedsText.{IsNeedsLine, IsNeedsText, IsFirstOfNeedsText}
-use Rattle.ae_print.proofs.GivenBack.{cause_at}
 use Rattle.ae_print.proofs.Lines.{first_all}
 use Rattle.ae_print.proofs.SomeFinished.{some_written, some_all, some_front, some_let_go, in_error}
 use Rattle.ae_print.proofs.needs.print_needs.Goals as goal
@@ -29,7 +28,7 @@ returns-clause-cause g c =
     let code = c.args.graph.now.code in
     let some = c.in_ok-write_needs.ensures.all in
     let written = some_written g.K.Sink.told g.K.Sink.faults g.K.Sink.same_rest (IsNeedsText code) _ _ _ c.new-lines.ensures.begun some in
-    cause_at _ _ _ _ (search rules) (c.finish.ensures.finished _ some.text written).cause
+    HasCause-at _ _ _ _ (search rules) (c.finish.ensures.finished _ some.text written).cause
 
 pub returns-in_err-write_needs-clause-front : goal.returns-in_err-write_needs-clause-front
 returns-in_err-write_needs-clause-front g c =
@@ -44,4 +43,4 @@ returns-in_err-write_needs-clause-cause g c =
     let some = c.in_err-write_needs.ensures.front in
     let written = some_written g.K.Sink.told g.K.Sink.faults g.K.Sink.same_rest (IsFirstOfNeedsText code) _ _ _ c.new-lines.ensures.begun some in
     let broken = c.in_err-write_needs.ensures.broken in
-    cause_at _ _ _ _ (search rules) (HasCause-failed _ _ _ c.from_residual.ensures.0 written.later (written.risen broken))
+    HasCause-at _ _ _ _ (search rules) (HasCause-failed _ _ _ c.from_residual.ensures.0 written.later (written.risen broken))

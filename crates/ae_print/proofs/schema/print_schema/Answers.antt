@@ -1,9 +1,9 @@
 use Rattle.std.proofs.Common.{[], rules, refl}
 use Rattle.ae_print.specs.SchemaText.{schema_text}
-use Rattle.ae_nums.proofs.LawsOfWriters.{Puts-same}
-use Rattle.ae_ports.proofs.LawsOfFaults.{OnErr-always, HasCause-failed}
-use Rattle.ae_print.proofs.GivenBack.{front_at, cause_at}
 use Rattle.ae_print.proofs.schema.print_schema.Goals as goal
+use Rattle.ae_nums.proofs.LawsOfWriters.{Puts-same}
+use Rattle.ae_ports.proofs.LawsOfFaults.{OnErr-always, HasCause-failed, HasCause-at}
+use Rattle.ae_ports.proofs.LawsOfContent.{AppendsFront-at}
 
 pub returns-clause-all : goal.returns-clause-all
 returns-clause-all g c =
@@ -17,24 +17,24 @@ returns-clause-front g c =
     let text = schema_text c.args.schema.now in
     let written = (Puts-same _ _ _ text _ c.write_schema.ensures refl).wrote.behind _ [] c.new-lines.ensures.begun in
     let finished = c.finish.ensures.finished _ text written in
-    front_at _ _ _ _ text (search rules) finished.front
+    AppendsFront-at _ _ _ _ text (search rules) finished.front
 
 pub returns-clause-cause : goal.returns-clause-cause
 returns-clause-cause g c =
     let text = schema_text c.args.schema.now in
     let written = (Puts-same _ _ _ text _ c.write_schema.ensures refl).wrote.behind _ [] c.new-lines.ensures.begun in
     let finished = c.finish.ensures.finished _ text written in
-    cause_at _ _ _ _ (search rules) finished.cause
+    HasCause-at _ _ _ _ (search rules) finished.cause
 
 pub returns-in_err-write_schema-clause-front : goal.returns-in_err-write_schema-clause-front
 returns-in_err-write_schema-clause-front g c =
     let text = schema_text c.args.schema.now in
     let written = (Puts-same _ _ _ text _ c.write_schema.ensures refl).wrote.behind _ [] c.new-lines.ensures.begun in
-    front_at _ _ _ _ text (search rules) (OnErr-always _ _ written.front)
+    AppendsFront-at _ _ _ _ text (search rules) (OnErr-always _ _ written.front)
 
 pub returns-in_err-write_schema-clause-cause : goal.returns-in_err-write_schema-clause-cause
 returns-in_err-write_schema-clause-cause g c =
     let text = schema_text c.args.schema.now in
     let written = (Puts-same _ _ _ text _ c.write_schema.ensures refl).wrote.behind _ [] c.new-lines.ensures.begun in
     let broken = c.in_err-write_schema.ensures.broken in
-    cause_at _ _ _ _ (search rules) (HasCause-failed _ _ _ c.from_residual.ensures.0 written.later (written.risen broken))
+    HasCause-at _ _ _ _ (search rules) (HasCause-failed _ _ _ c.from_residual.ensures.0 written.later (written.risen broken))

@@ -2,26 +2,27 @@ use Rattle.std.proofs.Common.{◌≡◌, ℕ, false, List, [], ◌∷◌, Result
 use Rattle.std.specs.Prelude.{◌↔◌, filter}
 use Rattle.std.proofs.lemmas.Bool.{cases_Bool}
 use Rattle.rv_code.specs.declared.image.Range.{Range}
+use Rattle.rv_code.proofs.LawsOfElements.{filter_kept, filter_dropped}
 use Rattle.reach_slice.specs.declared.fault.SliceFault.{SliceFault}
 use Rattle.reach_slice.specs.Slices.{is_access}
 use Rattle.ae_nums.proofs.LawsOfWriters.{Puts-none}
 use Rattle.ae_print.specs.Lines.{AreLines}
 use Rattle.ae_print.specs.SliceText.{IsSliceLine, slice_line}
-use Rattle.ae_print.proofs.Lines.{line_alone, first_all, first_none, alone_kept, alone_gone, puts_anyway}
+use Rattle.ae_print.proofs.Lines.{line_alone, first_all, first_none, puts_anyway}
 use Rattle.ae_print.proofs.slices.write_slice_at.Goals as goal
 
 -- where there is a slice, a load or store stands
 line_of_access : {T : Type 0} (code : List Range) (address : ℕ) (result : Result T SliceFault) (slice : T) (line : List ℕ) → result ≡ Ok slice → ((result ≡ Err SliceFault.NotAccess) ↔ (is_access code address ≡ false))
     → IsSliceLine code address line → AreLines (IsSliceLine code) (filter (is_access code) (address ∷ [])) line
 line_of_access code address result slice line is refused this = elim (cases_Bool (is_access code address)) [
-  | inl stands ↦ subst (λ (items : List ℕ). AreLines (IsSliceLine code) items line) (sym (alone_kept (is_access code) address stands)) (line_alone (IsSliceLine code) address line this)
+  | inl stands ↦ subst (λ (items : List ℕ). AreLines (IsSliceLine code) items line) (sym (filter_kept (is_access code) address stands)) (line_alone (IsSliceLine code) address line this)
   | inr none ↦ absurd (cc (is, refused.1 none))
 ]
 
 -- where none stands, there is no line
 no_line : {T : Type 0} (code : List Range) (address : ℕ) (result : Result T SliceFault) → result ≡ Err SliceFault.NotAccess → ((result ≡ Err SliceFault.NotAccess) ↔ (is_access code address ≡ false))
     → AreLines (IsSliceLine code) (filter (is_access code) (address ∷ [])) []
-no_line code address result is refused = subst (λ (items : List ℕ). AreLines (IsSliceLine code) items []) (sym (alone_gone (is_access code) address (refused.0 is))) refl
+no_line code address result is refused = subst (λ (items : List ℕ). AreLines (IsSliceLine code) items []) (sym (filter_dropped (is_access code) address (refused.0 is))) refl
 
 pub returns-in-Err-NotAccess-clause-all : goal.returns-in-Err-NotAccess-clause-all
 returns-in-Err-NotAccess-clause-all g c = record {

@@ -1,9 +1,9 @@
 use Rattle.std.proofs.Common.{[], refl, rules}
-use Rattle.ae_nums.proofs.LawsOfTraces.{AppendsFront-items}
 use Rattle.ae_nums.specs.Trace.{trace_text}
-use Rattle.ae_ports.proofs.LawsOfFaults.{HasCause-failed}
+use Rattle.ae_nums.proofs.LawsOfTraces.{AppendsFront-items}
+use Rattle.ae_ports.proofs.LawsOfFaults.{HasCause-failed, HasCause-at, HasCause-success}
 use Rattle.ae_top.specs.Regenerate.{IsBegunTraceOf, IsTraceOf}
-use Rattle.ae_top.proofs.Regenerated.{all_at, begun_of, cause_after, cause_at, front_at}
+use Rattle.ae_top.proofs.Regenerated.{all_at, begun_of, front_at}
 use Rattle.ae_top.proofs.regenerate.replay_to.Goals as goal
 
 -- the sink failed in the midst of the walk
@@ -36,7 +36,7 @@ returns-in_err-finish-clause-cause g c =
     let all = c.in_ok-halted.ensures.all in
     let written = all.2.behind c.args.sink.now [] c.new-lines.ensures.begun in
     let cause = (c.in_err-finish.ensures.finished c.args.sink.now (trace_text all.0) written).cause in
-    cause_at _ _ _ _ (search rules) (HasCause-failed _ _ _ c.from_residual-in_err-finish.ensures.0 cause.later cause.risen)
+    HasCause-at _ _ _ _ (search rules) (HasCause-failed _ _ _ c.from_residual-in_err-finish.ensures.0 cause.later cause.risen)
 
 -- all lines were handed on
 pub returns-clause-all : goal.returns-clause-all
@@ -52,4 +52,4 @@ returns-clause-cause g c =
     let all = c.in_ok-halted.ensures.all in
     let written = all.2.behind c.args.sink.now [] c.new-lines.ensures.begun in
     let cause = (c.in_ok-finish.ensures.finished c.args.sink.now (trace_text all.0) written).cause in
-    cause_at _ _ _ _ (search rules) (cause_after _ _ c.in_ok-halted.halted _ cause)
+    HasCause-at _ _ _ _ (search rules) (HasCause-success _ _ c.in_ok-halted.halted _ cause)

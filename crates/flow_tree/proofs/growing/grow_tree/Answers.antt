@@ -2,10 +2,11 @@ use Rattle.std.proofs.Common.{Bool, false, true, List, [], ◌∷◌, ◌++◌, 
 use Rattle.std.specs.List.Sorted.{IsPermutation}
 use Rattle.std.proofs.lemmas.List.Sorted.{length_permutation}
 use Rattle.std.proofs.lemmas.Option.{slice_get_within}
+use Rattle.rv_code.proofs.LawsOfElements.{set_here}
 use Rattle.flow_tree.specs.declared.waiting.Ranked.{Ranked}
 use Rattle.flow_tree.specs.Inner.Growing.{IsGrown, IsGrowing, ranked_of, row_of}
 use Rattle.flow_tree.specs.Inner.Waiting.{ComesFirst}
-use Rattle.flow_tree.proofs.AmongLists.{set_here, among_back}
+use Rattle.flow_tree.proofs.AmongLists.{among_back}
 use Rattle.flow_tree.proofs.Taking.{stays_set, by_rank}
 use Rattle.flow_tree.proofs.Trees.{begins, waited_before, none_waits}
 use Rattle.flow_tree.proofs.growing.grow_tree.Goals as goal

@@ -1,5 +1,5 @@
 use Rattle.std.proofs.Common.{arith}
-use Rattle.rv_code.proofs.Masks.{shifted-mask_of}
+use Rattle.rv_code.proofs.LawsOfMasks.{shifted-mask_of}
 use Rattle.rv_code.proofs.parts.bit_of.Goals as goal
 
 pub returns-in_default : goal.returns-in_default

@@ -2,13 +2,13 @@ use Rattle.std.proofs.Common.{◌≡◌, ℕ, ◌+◌, ◌-◌, ◌/◌, ◌<◌
 use Rattle.std.proofs.lemmas.List.{get_or_default}
 use Rattle.rv_code.specs.declared.extent.Extent.{Extent}
 use Rattle.rv_code.specs.Code.{is_word_of}
-use Rattle.schema_form.proofs.Begun.{before_at, before_length, none_there, place_there, place_within}
+use Rattle.schema_form.proofs.Begun.{before_at, before_length, no_place, place_there, place_within}
 use Rattle.schema_form.proofs.stretches.place_by.Goals as goal
 
 pub returns-then-begun-eq0-clause-place : goal.returns-then-begun-eq0-clause-place
 returns-then-begun-eq0-clause-place c =
     let begun = c.begun_by-begun in
-    sym (none_there c.args.stretches.now c.args.address c.requires.stretches begun.result begun.ensures.count begun.ensures.begun (λ number d is. absurd (omega (arith, c.if-begun-eq0.true))))
+    sym (no_place c.args.stretches.now c.args.address c.requires.stretches begun.result begun.ensures.count begun.ensures.begun (λ number d is. absurd (omega (arith, c.if-begun-eq0.true))))
 
 pub bounds-before-begun : goal.bounds-before-begun
 bounds-before-begun c = omega (arith, before_length c.args.stretches.now c.args.before.now c.requires.before, c.if-begun-eq0.false, c.begun_by-begun.ensures.count)
@@ -60,4 +60,4 @@ returns-else-has_word-clause-place c =
     ap (λ n. is_word_of (get_or items n d) c.args.address) same
     ∙ ap (λ (s : Extent). is_word_of s c.args.address) (sym (get_or_default items index none d within)) ∙ elsewhere
     in
-    sym (none_there items c.args.address c.requires.stretches begun.result begun.ensures.count begun.ensures.begun last)
+    sym (no_place items c.args.address c.requires.stretches begun.result begun.ensures.count begun.ensures.begun last)

@@ -2,7 +2,8 @@ use Rattle.std.proofs.Common.{◌≡◌, ℕ, ◌+◌, get_or, sym, ap, ◌∙�
 use Rattle.std.specs.Option.{option_map}
 use Rattle.std.proofs.lemmas.List.{get_or_default}
 use Rattle.rv_code.specs.declared.extent.Extent.{Extent}
-use Rattle.schema_form.proofs.LookedUp.{total_more, place_here, place_later, aligned_at, option_map-both}
+use Rattle.rv_code.proofs.LawsOfLookUps.{option_map-sum}
+use Rattle.schema_form.proofs.LookedUp.{total_more, place_here, place_later, aligned_at}
 use Rattle.schema_form.proofs.stretches.place_of.Goals as goal
 
 pub returns-then-has_word-clause-place : goal.returns-then-has_word-clause-place
@@ -32,5 +33,5 @@ loop-stretch-preserved c =
       place =
           c.loop-stretch.invariant.place
           ∙ ap (option_map (λ place. c.loop-stretch.before + place)) (place_later items index item within is c.args.address aligned (sym c.has_word.ensures ∙ c.if-has_word.false))
-          ∙ option_map-both c.loop-stretch.before item.count (c.loop-stretch.before + item.count) _ (omega arith);
+          ∙ option_map-sum c.loop-stretch.before item.count (c.loop-stretch.before + item.count) _ (omega arith);
     }

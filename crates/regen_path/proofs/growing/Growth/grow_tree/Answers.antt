@@ -2,7 +2,7 @@
 use Rattle.std.proofs.Common.{◌≡◌, ◌<◌, rules, ◌∷◌, [], List, length, refl, sym, ◌∙◌, subst, ap, arith, length-append}
 use Rattle.regen_path.specs.declared.growing.Visit.{Visit}
 use Rattle.regen_path.specs.Inner.Growing.{AreGrowing}
-use Rattle.regen_path.proofs.Grown.{whole_on, whole_kept, whole_given, no_number_of, some_number_of}
+use Rattle.regen_path.proofs.Grown.{numbers_kept, whole_on, whole_given, no_number_of, some_number_of}
 use Rattle.regen_path.proofs.growing.Growth.grow_tree.Goals as goal
 
 pub index-requires : goal.index-requires
@@ -33,7 +33,7 @@ loop-visit-init c =
     record {
       growing = whole_on c.args.ground.now.ways.items c.args.self.now _ c.requires.whole c.enter.new.self c.requires.ground.within refl fresh c.in_ok-enter.ensures;
       root = whole_given c.args.ground.now.ways.items c.args.self.now _ c.requires.whole c.enter.new.self fresh c.in_ok-enter.ensures;
-      kept = whole_kept c.args.ground.now.ways.items c.args.self.now _ c.requires.whole c.enter.new.self fresh c.in_ok-enter.ensures;
+      kept = numbers_kept c.args.ground.now.ways.items c.args.self.now c.enter.new.self _ fresh c.in_ok-enter.ensures c.requires.whole.1.numbered;
     }
 
 pub visit-requires-clause-waited : goal.visit-requires-clause-waited

@@ -1,6 +1,6 @@
 -- What waited is visited, or was before.
 use Rattle.std.proofs.Common.{◌<◌, length, sym, ◌∙◌, rules}
-use Rattle.regen_path.proofs.Grown.{waited_within, waited_left, waited_long, waited_past, waited_fresh, waited_on, waited_kept, work_falls}
+use Rattle.regen_path.proofs.Grown.{waited_within, numbers_kept, waited_past, waited_fresh, waited_on, work_falls}
 use Rattle.regen_path.proofs.growing.Growth.visit.Goals as goal
 
 pub index-requires : goal.index-requires
@@ -15,10 +15,10 @@ pub returns-then-is_some-clause-kept : goal.returns-then-is_some-clause-kept
 returns-then-is_some-clause-kept c = λ node number is. is
 
 pub enter-requires-clause-left : goal.enter-requires-clause-left
-enter-requires-clause-left c = waited_left c.args.ground.now.ways.items c.args.self.now c.args.visit c.requires.waited
+enter-requires-clause-left c = c.requires.waited.1.numbered.left
 
 pub enter-requires-clause-long : goal.enter-requires-clause-long
-enter-requires-clause-long c = waited_long c.args.ground.now.ways.items c.args.self.now c.args.visit c.requires.waited
+enter-requires-clause-long c = c.requires.waited.1.numbered.long
 
 pub enter-requires-clause-fresh : goal.enter-requires-clause-fresh
 enter-requires-clause-fresh c = waited_fresh c.args.ground.now.ways.items c.args.self.now c.args.visit c.requires.waited c.index.result.now c.index.ensures (sym c.is_some.ensures ∙ c.if-is_some.false)
@@ -30,8 +30,8 @@ returns-clause-growing c =
 
 pub returns-clause-kept : goal.returns-clause-kept
 returns-clause-kept c =
-    waited_kept c.args.ground.now.ways.items c.args.self.now c.args.visit c.requires.waited c.enter.new.self
-    (waited_fresh c.args.ground.now.ways.items c.args.self.now c.args.visit c.requires.waited c.index.result.now c.index.ensures (sym c.is_some.ensures ∙ c.if-is_some.false)) c.in_ok-enter.ensures
+    let fresh = waited_fresh c.args.ground.now.ways.items c.args.self.now c.args.visit c.requires.waited c.index.result.now c.index.ensures (sym c.is_some.ensures ∙ c.if-is_some.false) in
+    numbers_kept c.args.ground.now.ways.items c.args.self.now c.enter.new.self c.args.visit fresh c.in_ok-enter.ensures c.requires.waited.1.numbered
 
 pub returns-clause-less : goal.returns-clause-less
 returns-clause-less c =
