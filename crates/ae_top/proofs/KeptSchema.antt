@@ -1,5 +1,5 @@
 -- What comes of a command that works on a schema.
-use Rattle.std.proofs.Common.{◌≡◌, ℕ, ◌<◌, ◌≤◌, List, Option, None, Some, Result, Ok, Err, true, length, sym, ◌∙◌, subst, arith}
+use Rattle.std.proofs.Common.{◌≡◌, ℕ, ◌<◌, ◌≤◌, List, Option, Some, Result, Ok, Err, true, length, sym, ◌∙◌, subst, arith}
 use Rattle.std.proofs.lemmas.Bool.Decides.{nat_tests}
 use Rattle.std.specs.Prelude.{IfErr, nat_lt}
 use Rattle.ae_ports.specs.Files.{Files, HasBytes, SameFiles}
@@ -13,7 +13,7 @@ use Rattle.ae_top.specs.declared.inputs.NotRead.{NotRead}
 use Rattle.ae_top.specs.declared.schema_file.NoSchema.{NoSchema}
 use Rattle.ae_top.specs.declared.status.Status.{Status}
 use Rattle.ae_top.specs.Inner.Command.{Carries}
-use Rattle.ae_top.specs.Inputs.{IsAbsent, IsNotRead}
+use Rattle.ae_top.specs.Inputs.{IsNotRead}
 use Rattle.ae_top.specs.SchemaFile.{HasNoSchema, IsSchemaIn, LacksSchema, no_schema_by, status_without_schema}
 use Rattle.ae_top.specs.World.{World, Blames, BlamesDevices}
 use Rattle.ae_top.proofs.Blamed.{no_schema_blames, schema_unused}
