@@ -18,7 +18,7 @@ pub trait Taker {
     /// What the taker was made with and stands on is the same in both.
     ghost same_rest: { Self → Self → Type 0 };
 
-    /// TakesItem an item. After `Failed` it has taken the item or not.
+    /// Takes an item. After `Failed` it has taken the item or not.
     fn take(&mut self, item: Item) -> Result<(), Failed>
         ensures content { TakesItem (took self.old self.new) item result }
         ensures cause { HasCause (faults self.old) (faults self.new) result }
